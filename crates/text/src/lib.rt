@@ -1,0 +1,172 @@
+// UTF-8 by RFC 3629: the character at a position of any bytes, and the verdict on a whole text.
+ghost use mathlib.Core.Path.{_≡_};
+ghost use Prim.Native.Nat.{_+_, _≤_, _<_};
+ghost use lib.ListN.{length, drop};
+ghost use Rattle.text.specs.Utf8.{value2, value3, value4, two, three, four, lead, decoded};
+ghost use Rattle.text.specs.Next.{next, Lead, Second, Tail};
+ghost use Rattle.text.specs.Verdicts.{tooLong, utf8Verdict, textVerdict};
+use refusal::{Bad, Verdict};
+
+// A code point: the number type that stands for 000's `char`. Any number may be handed in where one is taken.
+pub type CodePoint = u32;
+
+// What stands at a position: a character and its bytes, the end of the text, or an ill-formed sequence.
+pub enum Decoded {
+    Char(CodePoint, usize),
+    End,
+    Ill,
+}
+
+// A byte that had to lie in a range: it does, or there is none that does.
+pub enum Next {
+    Byte(u32),
+    Other,
+}
+
+fn wide(x: u8) -> u32
+    ensures { λ r. ⌜ (r ≡ x) × (r < 256) ⌝ }
+{
+    x as u32
+}
+
+// The byte at a position, if it lies from low to high.
+fn next_byte(text: &[u8], at: usize, low: u32, high: u32) -> Next
+    ensures { λ r. ⌜ r ≡ next low high (drop at (now (text .entry))) ⌝ }
+{
+    if text.len() <= at {
+        return Next::Other;
+    }
+    let b = wide(text[at]);
+    if b < low {
+        return Next::Other;
+    }
+    if high < b {
+        return Next::Other;
+    }
+    Next::Byte(b)
+}
+
+// The value of a sequence: the bits that its bytes carry.
+fn join_two(a: u32, b: u32) -> CodePoint
+    requires { ⌜ (Lead 0xC0 a) × (Tail b) ⌝ }
+    ensures { λ r. ⌜ r ≡ value2 a b ⌝ }
+{
+    (a - 0xC0) * 0x40 + (b - 0x80)
+}
+
+fn join_three(a: u32, b: u32, c: u32) -> CodePoint
+    requires { ⌜ (Lead 0xE0 a) × (Tail b) × (Tail c) ⌝ }
+    ensures { λ r. ⌜ r ≡ value3 a b c ⌝ }
+{
+    (a - 0xE0) * 0x1000 + (b - 0x80) * 0x40 + (c - 0x80)
+}
+
+fn join_four(a: u32, b: u32, c: u32, d: u32) -> CodePoint
+    requires { ⌜ (Lead 0xF0 a) × (Tail b) × (Tail c) × (Tail d) ⌝ }
+    ensures { λ r. ⌜ r ≡ value4 a b c d ⌝ }
+{
+    (a - 0xF0) * 0x40000 + (b - 0x80) * 0x1000 + (c - 0x80) * 0x40 + (d - 0x80)
+}
+
+// The rest of a sequence of two bytes, at `at`, after its first byte a. The second byte lies from low to high.
+fn decode_two(text: &[u8], at: usize, a: u32, low: u32, high: u32) -> Decoded
+    requires { ⌜ (Lead 0xC0 a) × (Second low high) ⌝ }
+    ensures { λ r. ⌜ r ≡ two a low high (drop at (now (text .entry))) ⌝ }
+{
+    let Next::Byte(b) = next_byte(text, at, low, high) else {
+        return Decoded::Ill;
+    };
+    Decoded::Char(join_two(a, b), 2)
+}
+
+// The same of three bytes.
+fn decode_three(text: &[u8], at: usize, a: u32, low: u32, high: u32) -> Decoded
+    requires { ⌜ (Lead 0xE0 a) × (Second low high) × (at ≤ length (now text)) ⌝ }
+    ensures { λ r. ⌜ r ≡ three a low high (drop at (now (text .entry))) ⌝ }
+{
+    let Next::Byte(b) = next_byte(text, at, low, high) else {
+        return Decoded::Ill;
+    };
+    let Next::Byte(c) = next_byte(text, at + 1, 0x80, 0xBF) else {
+        return Decoded::Ill;
+    };
+    Decoded::Char(join_three(a, b, c), 3)
+}
+
+// The same of four bytes.
+fn decode_four(text: &[u8], at: usize, a: u32, low: u32, high: u32) -> Decoded
+    requires { ⌜ (Lead 0xF0 a) × (Second low high) × (at ≤ length (now text)) ⌝ }
+    ensures { λ r. ⌜ r ≡ four a low high (drop at (now (text .entry))) ⌝ }
+{
+    let Next::Byte(b) = next_byte(text, at, low, high) else {
+        return Decoded::Ill;
+    };
+    let Next::Byte(c) = next_byte(text, at + 1, 0x80, 0xBF) else {
+        return Decoded::Ill;
+    };
+    let Next::Byte(d) = next_byte(text, at + 2, 0x80, 0xBF) else {
+        return Decoded::Ill;
+    };
+    Decoded::Char(join_four(a, b, c, d), 4)
+}
+
+// The sequence whose first byte is a and whose rest is at `at`: the rows of RFC 3629 section 4.
+fn decode_lead(text: &[u8], at: usize, a: u32) -> Decoded
+    requires { ⌜ (a < 256) × (at ≤ length (now text)) ⌝ }
+    ensures { λ r. ⌜ r ≡ lead a (drop at (now (text .entry))) ⌝ }
+{
+    match a {
+        0x00..=0x7F => Decoded::Char(a, 1),
+        0xC2..=0xDF => decode_two(text, at, a, 0x80, 0xBF),
+        0xE0 => decode_three(text, at, a, 0xA0, 0xBF),
+        0xE1..=0xEC => decode_three(text, at, a, 0x80, 0xBF),
+        0xED => decode_three(text, at, a, 0x80, 0x9F),
+        0xEE..=0xEF => decode_three(text, at, a, 0x80, 0xBF),
+        0xF0 => decode_four(text, at, a, 0x90, 0xBF),
+        0xF1..=0xF3 => decode_four(text, at, a, 0x80, 0xBF),
+        0xF4 => decode_four(text, at, a, 0x80, 0x8F),
+        _ => Decoded::Ill,
+    }
+}
+
+// The character at a position of any bytes. Past the end there is the end.
+pub fn decode(text: &[u8], at: usize) -> Decoded
+    ensures { λ r. ⌜ r ≡ decoded (drop at (now (text .entry))) ⌝ }
+{
+    if text.len() <= at {
+        return Decoded::End;
+    }
+    decode_lead(text, at + 1, wide(text[at]))
+}
+
+// The check of a text's length: refusal 1.
+pub fn check_length(text: &[u8]) -> Verdict
+    ensures { λ r. ⌜ r ≡ tooLong (now (text .entry)) ⌝ }
+{
+    if 4294967295 < text.len() {
+        Verdict::Refused(Bad::TooLong)
+    } else {
+        Verdict::Fine
+    }
+}
+
+// The check of a text's bytes: refusal 2.
+pub fn check_utf8(text: &[u8]) -> Verdict
+    ensures { λ r. ⌜ r ≡ utf8Verdict (now (text .entry)) ⌝ }
+{
+    let mut at = 0;
+    loop {
+        match decode(text, at) {
+            Decoded::Char(_, w) => at += w,
+            Decoded::End => return Verdict::Fine,
+            Decoded::Ill => return Verdict::Refused(Bad::NotUtf8(at)),
+        }
+    }
+}
+
+// PUBLIC: whether a text is UTF-8 within the limit; if not, refusal 1, or 2 with the start of the first ill-formed sequence.
+pub fn check_text(text: &[u8]) -> Verdict
+    ensures { λ r. ⌜ r ≡ textVerdict (now (text .entry)) ⌝ }
+{
+    refusal::in_order(check_length(text), Verdict::Fine, check_utf8(text))
+}

@@ -1,0 +1,157 @@
+//! The oracle: answers of source document 000 and of Rust's own UTF-8 decoder.
+//!
+//! It reads one request a line from standard input and writes one line for each.
+//! Numbers are hexadecimal without a prefix. TEXT is bytes as pairs of hexadecimal
+//! digits; where it is missing the text is empty.
+//!
+//! | request                   | answer                                                     |
+//! |---------------------------|------------------------------------------------------------|
+//! | `list WHICH LOW HIGH ..`  | `ok`; lends the list; WHICH is `start`, `continue`, `emoji` |
+//! | `utf8 TEXT`               | `good`, or `bad PLACE`: the first ill-formed sequence      |
+//! | `utf8-after TEXT`         | 256 numbers, for TEXT and then byte 0, 1, ..: 0 or 1 + PLACE |
+//! | `class NAME NUMBER`       | `yes`, `no`, or `none` where NUMBER is no scalar value     |
+//! | `runs NAME`               | `LOW-HIGH=yes` or `LOW-HIGH=no`, parted by spaces          |
+//! | `ident TEXT`              | `yes`, `no`, or `bad PLACE` as `utf8` says                 |
+//!
+//! NAME is `whitespace`, `horizontal`, `start`, `continue` or `emoji`. The runs are
+//! the longest of equal answers, over all scalar values in order; none crosses the
+//! surrogates. A request that is not understood is answered `error` and why.
+//!
+//! The lists are believed: a caller lends only lists that obey the rules.
+
+use std::io::{self, BufRead, Write};
+
+use unicode_properties::UnicodeEmoji;
+
+type Answer = Result<String, String>;
+
+fn main() -> io::Result<()> {
+    let mut out = io::stdout().lock();
+    for line in io::stdin().lock().lines() {
+        let line = line?;
+        let words: Vec<&str> = line.split_ascii_whitespace().collect();
+        let answer = answer(&words).unwrap_or_else(|why| format!("error {why}"));
+        writeln!(out, "{answer}")?;
+        // A caller may wait for each answer before it asks again.
+        out.flush()?;
+    }
+    Ok(())
+}
+
+fn answer(words: &[&str]) -> Answer {
+    match words {
+        ["list", which, numbers @ ..] => lend(which, numbers),
+        ["utf8", text @ ..] => Ok(match utf8(&bytes(text)?) {
+            Ok(_) => "good".to_string(),
+            Err(place) => format!("bad {place:x}"),
+        }),
+        ["utf8-after", text @ ..] => Ok(utf8_after(&bytes(text)?)),
+        ["class", name, point] => {
+            let class = class(name)?;
+            Ok(match char::from_u32(number(point)?) {
+                Some(c) => yes_no(class(c)).to_string(),
+                None => "none".to_string(),
+            })
+        }
+        ["runs", name] => Ok(runs(class(name)?)),
+        ["ident", text @ ..] => Ok(match utf8(&bytes(text)?) {
+            Ok(text) => yes_no(rustc_lexer::is_ident(text)).to_string(),
+            Err(place) => format!("bad {place:x}"),
+        }),
+        _ => Err("unknown request".to_string()),
+    }
+}
+
+fn yes_no(answer: bool) -> &'static str {
+    if answer { "yes" } else { "no" }
+}
+
+fn number(word: &str) -> Result<u32, String> {
+    u32::from_str_radix(word, 16).map_err(|_| format!("no number: {word}"))
+}
+
+fn bytes(words: &[&str]) -> Result<Vec<u8>, String> {
+    let digits = match words {
+        [] => "",
+        [digits] => digits,
+        _ => return Err("more than one text".to_string()),
+    };
+    if !digits.is_ascii() || digits.len() % 2 != 0 {
+        return Err("no text".to_string());
+    }
+    (0..digits.len())
+        .step_by(2)
+        .map(|at| u8::from_str_radix(&digits[at..at + 2], 16).map_err(|_| "no text".to_string()))
+        .collect()
+}
+
+fn lend(which: &str, numbers: &[&str]) -> Answer {
+    if numbers.len() % 2 != 0 {
+        return Err("half a pair".to_string());
+    }
+    let mut list = Vec::new();
+    for pair in numbers.chunks(2) {
+        list.push((number(pair[0])?, number(pair[1])?));
+    }
+    match which {
+        "start" => unicode_ident::lend_start(list),
+        "continue" => unicode_ident::lend_continue(list),
+        "emoji" => unicode_properties::lend_emoji(list),
+        _ => return Err(format!("no list: {which}")),
+    }
+    Ok("ok".to_string())
+}
+
+/// The text, or the start of its first ill-formed sequence.
+fn utf8(text: &[u8]) -> Result<&str, usize> {
+    std::str::from_utf8(text).map_err(|error| error.valid_up_to())
+}
+
+fn utf8_after(prefix: &[u8]) -> String {
+    let mut text = prefix.to_vec();
+    text.push(0);
+    let last = prefix.len();
+    let verdicts: Vec<String> = (0..=255u8)
+        .map(|byte| {
+            text[last] = byte;
+            match utf8(&text) {
+                Ok(_) => "0".to_string(),
+                Err(place) => format!("{:x}", 1 + place),
+            }
+        })
+        .collect();
+    verdicts.join(" ")
+}
+
+fn class(name: &str) -> Result<fn(char) -> bool, String> {
+    match name {
+        "whitespace" => Ok(rustc_lexer::is_whitespace),
+        "horizontal" => Ok(rustc_lexer::is_horizontal_whitespace),
+        "start" => Ok(rustc_lexer::is_id_start),
+        "continue" => Ok(rustc_lexer::is_id_continue),
+        "emoji" => Ok(is_emoji),
+        _ => Err(format!("no class: {name}")),
+    }
+}
+
+// The guard that 000 writes wherever it asks about emoji.
+fn is_emoji(c: char) -> bool {
+    !c.is_ascii() && c.is_emoji_char()
+}
+
+fn runs(class: fn(char) -> bool) -> String {
+    let mut runs: Vec<(u32, u32, bool)> = Vec::new();
+    for c in '\0'..=char::MAX {
+        let point = c as u32;
+        let answer = class(c);
+        match runs.last_mut() {
+            Some((_, high, same)) if *high + 1 == point && *same == answer => *high = point,
+            _ => runs.push((point, point, answer)),
+        }
+    }
+    let words: Vec<String> = runs
+        .iter()
+        .map(|&(low, high, answer)| format!("{low:x}-{high:x}={}", yes_no(answer)))
+        .collect();
+    words.join(" ")
+}
