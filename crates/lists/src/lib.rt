@@ -3,7 +3,8 @@
 ghost use mathlib.Core.Path.{_≡_};
 ghost use Rattle.lists.specs.Rules.{goodPair, flawFrom, flaw, listVerdict, Good};
 ghost use Rattle.lists.specs.Search.{inPairs};
-use refusal::{Bad, Verdict};
+use refusal::Bad;
+use refusal::Verdict;
 
 // The most pairs that a list may have. It stands here alone: code and contracts read it.
 pub const MAX_PAIRS: usize = 2048;
@@ -60,10 +61,10 @@ fn good_pair(previous: u32, low: u32, high: u32) -> bool
 fn pairs_flaw(list: &[u32]) -> Flaw
     ensures { λ r. ⌜ r ≡ flawFrom 0 0 (now (list .entry)) ⌝ }
 {
-    let pairs = list.len() / 2;
+    let whole = list.len() / 2;
     let mut previous = 0;
     let mut k = 0;
-    while k < pairs {
+    while k < whole {
         let low = list[k * 2];
         let high = list[k * 2 + 1];
         if !good_pair(previous, low, high) {
@@ -73,7 +74,7 @@ fn pairs_flaw(list: &[u32]) -> Flaw
         k += 1;
     }
     if list.len() % 2 == 1 {
-        return Flaw::Pair(pairs);
+        return Flaw::Pair(whole);
     }
     Flaw::Nowhere
 }

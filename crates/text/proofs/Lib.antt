@@ -3,5 +3,7 @@ pub mod Rows
 pub mod Views
 pub mod Coding
 pub mod Texts
+pub mod Stops
+pub mod Answers
 pub mod Places
 pub mod Positions

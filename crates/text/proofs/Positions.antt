@@ -57,3 +57,89 @@ boundary-parts = by-chars (λ (s : List ℕ). (at : ℕ) → onBoundary s at ≡
         let j : w + (at - w) ≡ at = omega (arith, f .wide) in
         let k : drop (at - w) (drop w s) ≡ drop at s = drop-drop (at - w) w s ∙ ap (λ (m : ℕ). drop m s) j in
         record { before = c ∷ p .before; joined = ap (λ (l : List ℕ). c ∷ l) (ap (λ (t : List ℕ). p .before ++ chars t) (sym k) ∙ p .joined) ∙ sym n; bytes = rw (f .wide, p .bytes) j }
+
+-- the first byte of a character is no tail, and the others are
+record Shape (s : List ℕ) (w : ℕ) : Type 0 where
+  first : within 0x80 0xBF (getD s 0 0) ≡ false
+  others : (k : ℕ) → 0 < k → k < w → within 0x80 0xBF (getD s k 0) ≡ true
+
+abbrev ShapeOf : List ℕ → Decoded → Type 0
+ShapeOf s (Char c w) = Shape s w
+ShapeOf s End = Unit {0}
+ShapeOf s Ill = Unit {0}
+
+is-tail : {b : ℕ} → Tail b → within 0x80 0xBF b ≡ true
+is-tail {b} t = inside-within 0x80 0xBF b (t .least) (t .most)
+
+shape-of : {s : List ℕ} {d : Decoded} → View s d → ShapeOf s d
+shape-of end = tt
+shape-of ill = tt
+shape-of (one {a} h) = record { first = under-within 0x80 0xBF a (omega arith); others = λ k p q. absurd (omega arith) }
+shape-of (two {a} {b} {s} l h tb) =
+    record { first = over-within 0x80 0xBF a (omega arith) (omega arith); others = λ k p q. let e : k ≡ 1 = omega arith in rw e (is-tail tb) }
+shape-of (three {a} {b} {c} {s} l h tb tc m sc) = record { first = over-within 0x80 0xBF a (omega arith) (omega arith); others = others }
+  where
+    others : (k : ℕ) → 0 < k → k < 3 → within 0x80 0xBF (getD (a ∷ b ∷ c ∷ s) k 0) ≡ true
+    others k p q = ⊎-elim (λ j. let e : k ≡ 1 = omega arith in rw e (is-tail tb)) (λ j. let e : k ≡ 2 = omega arith in rw e (is-tail tc)) (below-or-not k 2)
+shape-of (four {a} {b} {c} {d} {s} l h tb tc td m t) = record { first = over-within 0x80 0xBF a (omega arith) (omega arith); others = others }
+  where
+    others : (k : ℕ) → 0 < k → k < 4 → within 0x80 0xBF (getD (a ∷ b ∷ c ∷ d ∷ s) k 0) ≡ true
+    others k p q =
+        ⊎-elim (λ j. let e : k ≡ 1 = omega arith in rw e (is-tail tb))
+        (λ i. ⊎-elim (λ j. let e : k ≡ 2 = omega arith in rw e (is-tail tc)) (λ j. let e : k ≡ 3 = omega arith in rw e (is-tail td)) (below-or-not k 3)) (below-or-not k 2)
+
+shape : (s : List ℕ) {c w : ℕ} → decoded s ≡ Char c w → Shape s w
+shape s e = subst (λ (d : Decoded). ShapeOf s d) e (shape-of (view s))
+
+-- the byte at a position, by where the position is
+module _ (s : List ℕ) (at : ℕ) where
+  here-end : at ≡ length s → startsHere s at ≡ true
+  unfolding startsHere
+  here-end h = rw (eq-eqb at (length s) h)
+
+  here-past : length s < at → startsHere s at ≡ false
+  unfolding startsHere
+  here-past h = rw (ne-eqb at (length s) (λ e. omega arith), le-ltb at (length s) (omega arith))
+
+  here-byte : at < length s → startsHere s at ≡ not (within 0x80 0xBF (getD s at 0))
+  unfolding startsHere
+  here-byte h = rw (ne-eqb at (length s) (λ e. omega arith), lt-ltb at (length s) h)
+
+-- past a character of w bytes nothing changes
+here-on : (s : List ℕ) (w at : ℕ) → w ≤ at → w ≤ length s → startsHere (drop w s) (at - w) ≡ startsHere s at
+here-on s w at l r =
+    let n : length (drop w s) ≡ length s - w = length-drop w s in
+    ⊎-elim (λ h. here-byte (drop w s) (at - w) (omega arith) ∙ ap (λ (b : ℕ). not (within 0x80 0xBF b)) (getD-drop w s (at - w) 0 ∙ ap (λ (k : ℕ). getD s k 0) (omega arith)) ∙ sym (here-byte s at h))
+    (λ h. ⊎-elim (λ k. here-past (drop w s) (at - w) (omega arith) ∙ sym (here-past s at k)) (λ k. here-end (drop w s) (at - w) (omega arith) ∙ sym (here-end s at (omega arith))) (below-or-not (length s) at))
+    (below-or-not at (length s))
+
+edge-in : (c : ℕ) (cs : List ℕ) (at : ℕ) → 0 < at → at < width c → edge (c ∷ cs) at ≡ false
+unfolding edge
+edge-in c cs at p q = rw (ne-eqb at 0 (λ e. omega arith), lt-leb (width c) at q)
+
+edge-on : (c : ℕ) (cs : List ℕ) (at : ℕ) → 0 < at → width c ≤ at → edge (c ∷ cs) at ≡ edge cs (at - width c)
+unfolding edge
+edge-on c cs at p q = rw (ne-eqb at 0 (λ e. omega arith), le-leb (width c) at q)
+
+nothing : (s : List ℕ) → length s ≡ 0 → (at : ℕ) → edge [] at ≡ startsHere s at
+unfolding edge
+nothing s n at =
+    ⊎-elim (λ h. rw (eq-eqb at 0 (omega arith)) (sym (here-end s at (omega arith))))
+    (λ h. rw (ne-eqb at 0 (λ e. omega arith)) (sym (here-past s at (omega arith)))) (below-or-not at 1)
+
+character : (s : List ℕ) (c w : ℕ) → Shape s w → Fact s c w → (at : ℕ) → ((k : ℕ) → edge (chars (drop w s)) k ≡ startsHere (drop w s) k) → edge (c ∷ chars (drop w s)) at ≡ startsHere s at
+character s c w g f at ih =
+    let q : width c ≡ w = f .wide in
+    ⊎-elim (λ h. let z : at ≡ 0 = omega arith in rw z (edge-start (c ∷ chars (drop w s)) ∙ sym (here-byte s 0 (omega (arith, f .room, f .some)) ∙ ap not (g .first))))
+    (λ h. ⊎-elim (λ k. edge-in c _ at h (omega arith) ∙ sym (here-byte s at (omega (arith, f .room)) ∙ ap not (g .others at h k)))
+    (λ k. edge-on c _ at h (omega arith) ∙ ap (λ (m : ℕ). edge (chars (drop w s)) (at - m)) q ∙ ih (at - w) ∙ here-on s w at k (f .room)) (below-or-not at w))
+    (below-or-not at 1)
+
+-- IN A WELL-FORMED TEXT a position is on a boundary exactly where it is the end or its byte is no tail
+pub boundary-byte : (s : List ℕ) → WellFormed s → (at : ℕ) → onBoundary s at ≡ startsHere s at
+boundary-byte = by-chars (λ (s : List ℕ). WellFormed s → (at : ℕ) → onBoundary s at ≡ startsHere s at)
+    (λ s n v at. rw n (nothing s (sym v ∙ ap size n) at))
+    (λ s c w d f n ih v at. rw n (character s c w (shape s d) f at (ih (tail-well s c w f n v))))
+  where
+    tail-well : (s : List ℕ) (c w : ℕ) → Fact s c w → chars s ≡ c ∷ chars (drop w s) → WellFormed s → WellFormed (drop w s)
+    tail-well s c w f n v = let m : size (chars s) ≡ width c + size (chars (drop w s)) = ap size n in omega (arith, f .wide, length-drop w s)

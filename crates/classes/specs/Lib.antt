@@ -1,0 +1,4 @@
+pub mod Whitespace
+pub mod Identifiers
+pub mod Emoji
+pub mod Answers

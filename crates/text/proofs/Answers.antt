@@ -1,0 +1,12 @@
+-- Document 01, "Nothing left open": two answers that a call's promise allows for the same text are the same answer.
+use mathlib.Core.Path.{_≡_, sym, _∙_}
+use Rattle.refusal.specs.declared.Verdict.{Verdict}
+use Rattle.text.specs.declared.Decoded.{Decoded}
+use Rattle.text.proofs.check_text.Reads as check-text
+use Rattle.text.proofs.decode.Reads as decode
+
+pub one-verdict : (κs : _) (a : _) (r q : Verdict) (x y : _) → check-text.Post κs a r x → check-text.Post κs a q y → r ≡ q
+one-verdict κs a r q x y p e = p ∙ sym e
+
+pub one-decoded : (κs : _) (a : _) (r q : Decoded) (x y : _) → decode.Post κs a r x → decode.Post κs a q y → r ≡ q
+one-decoded κs a r q x y p e = p ∙ sym e
