@@ -17,7 +17,7 @@ use Rattle.classes.specs.Identifiers.{idStart, idContinue, isIdent}
 use Rattle.classes.specs.Emoji.{emojiChar}
 
 -- a refusal, or what the call says
-abbrev pub answerOf : Verdict → Bool → Answer
+unfoldable pub answerOf : Verdict → Bool → Answer
 answerOf verdict.Fine holds = Is holds
 answerOf (verdict.Refused bad) holds = Refused bad
 
@@ -36,7 +36,7 @@ abbrev pub emojiAnswer : (limit : ℕ) (emoji : List ℕ) → ℕ → Answer
 emojiAnswer limit emoji c = answerOf (listVerdict limit 2 emoji) (emojiChar emoji c)
 
 -- is_ident checks 1, then 3 for its two lists, then 2
-abbrev pub identVerdict : (limit : ℕ) (text starts continues : List ℕ) → Verdict
+unfoldable pub identVerdict : (limit : ℕ) (text starts continues : List ℕ) → Verdict
 identVerdict limit text starts continues =
     inOrder (tooLong text) (listsInOrder (listVerdict limit 0 starts) (listVerdict limit 1 continues) verdict.Fine) (utf8Verdict text)
 

@@ -9,7 +9,7 @@ use Rattle.basics.specs.Tests.{within, all}
 use Rattle.lists.specs.Search.{inPairs}
 
 -- A to Z, a to z
-abbrev pub letter : ℕ → Bool
+unfoldable pub letter : ℕ → Bool
 letter c = or (within 0x41 0x5A c) (within 0x61 0x7A c)
 
 -- 0 to 9

@@ -66,18 +66,29 @@ pub fn is_horizontal_whitespace(c: CodePoint) -> bool
     }
 }
 
+// Whether c is a letter of ASCII.
+fn letter(c: CodePoint) -> bool
+    ensures { λ r. ⌜ r ≡ Rattle.classes.specs.Identifiers.letter c ⌝ }
+{
+    match c {
+        0x41..=0x5A => true,
+        0x61..=0x7A => true,
+        _ => false,
+    }
+}
+
 // Whether c starts an identifier.
 pub fn id_start(c: CodePoint, starts: &[u32]) -> bool
     requires { ⌜ Good (now starts) ⌝ }
     ensures { λ r. ⌜ r ≡ idStart (now (starts .entry)) c ⌝ }
 {
-    match c {
-        0x41..=0x5A => true,
-        0x5F => true,
-        0x61..=0x7A => true,
-        0x00..=0x7F => false,
-        _ => lists::in_pairs(c, starts),
+    if 0x80 <= c {
+        return lists::in_pairs(c, starts);
     }
+    if letter(c) {
+        return true;
+    }
+    c == 0x5F
 }
 
 // Whether c goes on in an identifier.
@@ -85,13 +96,16 @@ pub fn id_continue(c: CodePoint, continues: &[u32]) -> bool
     requires { ⌜ Good (now continues) ⌝ }
     ensures { λ r. ⌜ r ≡ idContinue (now (continues .entry)) c ⌝ }
 {
+    if 0x80 <= c {
+        return lists::in_pairs(c, continues);
+    }
+    if letter(c) {
+        return true;
+    }
     match c {
-        0x30..=0x39 => true,
-        0x41..=0x5A => true,
         0x5F => true,
-        0x61..=0x7A => true,
-        0x00..=0x7F => false,
-        _ => lists::in_pairs(c, continues),
+        0x30..=0x39 => true,
+        _ => false,
     }
 }
 
@@ -140,13 +154,17 @@ fn all_continue(text: &[u8], from: usize, continues: &[u32]) -> bool
 {
     let mut at = from;
     loop {
-        let Decoded::Char(c, w) = text::decode(text, at) else {
-            return true;
-        };
-        if !id_continue(c, continues) {
-            return false;
+        match text::decode(text, at) {
+            Decoded::Char(c, w) => {
+                if id_continue(c, continues) {
+                    at += w;
+                } else {
+                    return false;
+                }
+            }
+            Decoded::End => return true,
+            Decoded::Ill => return true,
         }
-        at += w;
     }
 }
 
@@ -155,13 +173,16 @@ pub fn ident(text: &[u8], starts: &[u32], continues: &[u32]) -> bool
     requires { ⌜ Good (now starts) × Good (now continues) ⌝ }
     ensures { λ r. ⌜ r ≡ isIdent (now (starts .entry)) (now (continues .entry)) (chars (now (text .entry))) ⌝ }
 {
-    let Decoded::Char(c, w) = text::decode(text, 0) else {
-        return false;
-    };
-    if id_start(c, starts) {
-        all_continue(text, w, continues)
-    } else {
-        false
+    match text::decode(text, 0) {
+        Decoded::Char(c, w) => {
+            if id_start(c, starts) {
+                all_continue(text, w, continues)
+            } else {
+                false
+            }
+        }
+        Decoded::End => false,
+        Decoded::Ill => false,
     }
 }
 

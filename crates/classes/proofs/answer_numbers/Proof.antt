@@ -1,3 +1,4 @@
+use Rattle.classes.proofs.Checks.{numbers-yes, numbers-no, numbers-refused}
 use borrow.Author.Needs.{needs}
 use Rattle.classes.proofs.answer_numbers.Statement.{statement}
 use Rattle.classes.proofs.answer_numbers.Tie as tie
@@ -19,15 +20,15 @@ bad-numbers-requires c κs = search needs
 
 -- src/lib.rt:24:1
 returns : tie.Need-returns
-returns c = search needs
+returns c = search numbers-yes
 
 -- src/lib.rt:24:1
 returns-2 : tie.Need-returns-2
-returns-2 c = search needs
+returns-2 c = search numbers-no
 
 -- src/lib.rt:24:1
 returns-3 : tie.Need-returns-3
-returns-3 c = search needs
+returns-3 c = search numbers-refused
 
 pub answer-numbers-spec : {M : Type 1} → statement M
 answer-numbers-spec =

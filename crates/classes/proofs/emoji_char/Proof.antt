@@ -1,3 +1,5 @@
+use Rattle.classes.specs.Emoji.{emojiChar}
+use borrow.Author.Tests.{lt-ltb, le-ltb}
 use borrow.Author.Needs.{needs}
 use Rattle.classes.proofs.emoji_char.Statement.{statement}
 use Rattle.classes.proofs.emoji_char.Tie as tie
@@ -11,11 +13,13 @@ in-pairs-requires c κs = search needs
 
 -- src/lib.rt:99:1
 returns : tie.Need-returns
-returns c = search needs
+unfolding emojiChar
+returns c = search (needs, lt-ltb, le-ltb)
 
 -- src/lib.rt:99:1
 returns-2 : tie.Need-returns-2
-returns-2 c = search needs
+unfolding emojiChar
+returns-2 c = search (needs, lt-ltb, le-ltb)
 
 pub emoji-char-spec : {M : Type 1} → statement M
 emoji-char-spec = tie.close (tie.spec in-pairs-requires returns returns-2)

@@ -1,56 +1,31 @@
+use Rattle.classes.proofs.Points.{start-listed, start-letter, start-other}
 use borrow.Author.Needs.{needs}
 use Rattle.classes.proofs.id_start.Statement.{statement}
 use Rattle.classes.proofs.id_start.Tie as tie
 use Rattle.classes.proofs.id_start.Reads as reads
 use Rattle.classes.proofs.id_start.Lts as lts
+use Rattle.classes.proofs.letter.Reads as letter-reads
 use Rattle.lists.proofs.in_pairs.Reads as in-pairs-reads
 
--- src/lib.rt:79:14
+-- src/lib.rt:86:9
 in-pairs-requires : tie.Need-in-pairs-requires
 in-pairs-requires c κs = search needs
 
--- src/lib.rt:70:1
+-- src/lib.rt:86:9
 returns : tie.Need-returns
-returns c = search needs
+returns c = search start-listed
 
--- src/lib.rt:70:1
+-- src/lib.rt:88:8
+letter-requires : tie.Need-letter-requires
+letter-requires c κs = search needs
+
+-- src/lib.rt:89:9
 returns-2 : tie.Need-returns-2
-returns-2 c = search needs
+returns-2 c = search start-letter
 
--- src/lib.rt:70:1
+-- src/lib.rt:81:1
 returns-3 : tie.Need-returns-3
-returns-3 c = search needs
-
--- src/lib.rt:70:1
-returns-4 : tie.Need-returns-4
-returns-4 c = search needs
-
--- src/lib.rt:70:1
-returns-5 : tie.Need-returns-5
-returns-5 c = search needs
-
--- src/lib.rt:70:1
-returns-6 : tie.Need-returns-6
-returns-6 c = search needs
-
--- src/lib.rt:70:1
-returns-7 : tie.Need-returns-7
-returns-7 c = search needs
-
--- src/lib.rt:70:1
-returns-8 : tie.Need-returns-8
-returns-8 c = search needs
+returns-3 c = search start-other
 
 pub id-start-spec : {M : Type 1} → statement M
-id-start-spec =
-    tie.close
-    (tie.spec
-    in-pairs-requires
-    returns
-    returns-2
-    returns-3
-    returns-4
-    returns-5
-    returns-6
-    returns-7
-    returns-8)
+id-start-spec = tie.close (tie.spec in-pairs-requires returns letter-requires returns-2 returns-3)

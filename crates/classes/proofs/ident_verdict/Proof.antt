@@ -1,3 +1,4 @@
+use Rattle.classes.specs.Answers.{identVerdict}
 use borrow.Author.Needs.{needs}
 use Rattle.classes.proofs.ident_verdict.Statement.{statement}
 use Rattle.classes.proofs.ident_verdict.Tie as tie
@@ -35,7 +36,8 @@ in-order-requires c κs = search needs
 
 -- src/lib.rt:169:1
 returns : tie.Need-returns
-returns c = search needs
+unfolding identVerdict
+returns c = cc
 
 pub ident-verdict-spec : {M : Type 1} → statement M
 ident-verdict-spec =

@@ -1,3 +1,4 @@
+use Rattle.classes.proofs.Checks.{says, refuses, listed-good}
 use borrow.Author.Needs.{needs}
 use Rattle.classes.proofs.is_emoji_char.Statement.{statement}
 use Rattle.classes.proofs.is_emoji_char.Tie as tie
@@ -16,7 +17,7 @@ enum-told c = search needs
 
 -- src/lib.rt:131:37
 emoji-char-requires : tie.Need-emoji-char-requires
-emoji-char-requires c κs = search needs
+emoji-char-requires c κs = search listed-good
 
 -- src/lib.rt:132:26
 enum-known-bad : tie.Need-enum-known-bad
@@ -24,11 +25,11 @@ enum-known-bad c = search needs
 
 -- src/lib.rt:127:1
 returns : tie.Need-returns
-returns c = search needs
+returns c = search says
 
 -- src/lib.rt:127:1
 returns-2 : tie.Need-returns-2
-returns-2 c = search needs
+returns-2 c = search refuses
 
 pub is-emoji-char-spec : {M : Type 1} → statement M
 is-emoji-char-spec =

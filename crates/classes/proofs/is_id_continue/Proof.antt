@@ -1,3 +1,4 @@
+use Rattle.classes.proofs.Checks.{says, refuses, listed-good}
 use borrow.Author.Needs.{needs}
 use Rattle.classes.proofs.is_id_continue.Statement.{statement}
 use Rattle.classes.proofs.is_id_continue.Tie as tie
@@ -16,7 +17,7 @@ enum-told c = search needs
 
 -- src/lib.rt:121:37
 id-continue-requires : tie.Need-id-continue-requires
-id-continue-requires c κs = search needs
+id-continue-requires c κs = search listed-good
 
 -- src/lib.rt:122:26
 enum-known-bad : tie.Need-enum-known-bad
@@ -24,11 +25,11 @@ enum-known-bad c = search needs
 
 -- src/lib.rt:117:1
 returns : tie.Need-returns
-returns c = search needs
+returns c = search says
 
 -- src/lib.rt:117:1
 returns-2 : tie.Need-returns-2
-returns-2 c = search needs
+returns-2 c = search refuses
 
 pub is-id-continue-spec : {M : Type 1} → statement M
 is-id-continue-spec =

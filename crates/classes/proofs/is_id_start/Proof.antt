@@ -1,3 +1,4 @@
+use Rattle.classes.proofs.Checks.{says, refuses, listed-good}
 use borrow.Author.Needs.{needs}
 use Rattle.classes.proofs.is_id_start.Statement.{statement}
 use Rattle.classes.proofs.is_id_start.Tie as tie
@@ -16,7 +17,7 @@ enum-told c = search needs
 
 -- src/lib.rt:111:37
 id-start-requires : tie.Need-id-start-requires
-id-start-requires c κs = search needs
+id-start-requires c κs = search listed-good
 
 -- src/lib.rt:112:26
 enum-known-bad : tie.Need-enum-known-bad
@@ -24,11 +25,11 @@ enum-known-bad c = search needs
 
 -- src/lib.rt:107:1
 returns : tie.Need-returns
-returns c = search needs
+returns c = search says
 
 -- src/lib.rt:107:1
 returns-2 : tie.Need-returns-2
-returns-2 c = search needs
+returns-2 c = search refuses
 
 pub is-id-start-spec : {M : Type 1} → statement M
 is-id-start-spec =

@@ -1,3 +1,4 @@
+use Rattle.classes.proofs.Checks.{says, refuses, ident-starts, ident-continues}
 use borrow.Author.Needs.{needs}
 use Rattle.classes.proofs.is_ident.Statement.{statement}
 use Rattle.classes.proofs.is_ident.Tie as tie
@@ -16,7 +17,7 @@ enum-told c = search needs
 
 -- src/lib.rt:185:37
 ident-requires : tie.Need-ident-requires
-ident-requires c κs = search needs
+ident-requires c κs = search (ident-starts, ident-continues)
 
 -- src/lib.rt:186:26
 enum-known-bad : tie.Need-enum-known-bad
@@ -24,11 +25,11 @@ enum-known-bad c = search needs
 
 -- src/lib.rt:181:1
 returns : tie.Need-returns
-returns c = search needs
+returns c = search says
 
 -- src/lib.rt:181:1
 returns-2 : tie.Need-returns-2
-returns-2 c = search needs
+returns-2 c = search refuses
 
 pub is-ident-spec : {M : Type 1} → statement M
 is-ident-spec =

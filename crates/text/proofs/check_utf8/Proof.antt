@@ -1,4 +1,4 @@
-use Rattle.text.proofs.Places.{Reached, reached-none, reached-room, reached-less, reached-more, reached-end, reached-ill}
+use Rattle.text.proofs.Places.{Reached, reached-none, char-room, char-less, reached-more, reached-end, reached-ill}
 use native.Mathlib.Omega.{arith}
 use lib.ListN.{length}
 use Prim.Native.Nat.{_+_, _-_, _≤_}
@@ -29,11 +29,11 @@ enum-known-w c = search needs
 
 -- src/lib.rt:160:36
 add-at : tie.Need-add-at Inv-loop μ-loop
-add-at c = omega (arith, reached-room _ (c .before .before .before .before .loop .inv) (c .before .before .before .decode .ensures) (c .before .w .given .1))
+add-at c = let o = c .before .before .before .before in omega (arith, char-room (o .before .before .args .text .now) (o .loop .at) (c .before .before .before .decode .ensures) (c .before .w .given .1))
 
 -- src/lib.rt:158:5
 loop-less : tie.Need-loop-less Inv-loop μ-loop
-loop-less c = search reached-less
+loop-less c = search char-less
 
 -- src/lib.rt:158:5
 loop-again : tie.Need-loop-again Inv-loop μ-loop
