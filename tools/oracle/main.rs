@@ -11,16 +11,32 @@
 //! | `utf8-after TEXT`         | 256 numbers, for TEXT and then byte 0, 1, ..: 0 or 1 + PLACE |
 //! | `class NAME NUMBER`       | `yes`, `no`, or `none` where NUMBER is no scalar value     |
 //! | `runs NAME`               | `LOW-HIGH=yes` or `LOW-HIGH=no`, parted by spaces          |
-//! | `ident TEXT`              | `yes`, `no`, or `bad PLACE` as `utf8` says                 |
+//! | `ident TEXT`              | `yes` or `no`                                              |
+//! | `tokens ALLOWED TEXT`     | all tokens but Eof, parted by spaces; `-` where there is none |
+//! | `shebang TEXT`            | `none`, or the length of the shebang                       |
+//! | `raw PREFIX TEXT`         | `ok`, `InvalidStarter CHARACTER`, `TooManyDelimiters FOUND`, or `NoTerminator EXPECTED FOUND OFFSET`, where OFFSET may be `none` |
+//! | `guarded PLACE TEXT`      | `none STANDS`, or `found HASHES TERMINATED LENGTH STANDS`  |
 //!
 //! NAME is `whitespace`, `horizontal`, `start`, `continue` or `emoji`. The runs are
 //! the longest of equal answers, over all scalar values in order; none crosses the
 //! surrogates. A request that is not understood is answered `error` and why.
 //!
+//! ALLOWED says whether frontmatter is: `on` or `off`. A token is its kind, what the
+//! kind holds in the order of 000's fields, and its length, parted by commas; what is
+//! missing is `none`, and doc styles are `outer` and `inner`: `Plus,1`, `Lifetime,false,2`,
+//! `BlockComment,outer,true,6`, `Literal,RawStr,none,4,4`, `Literal,Int,Decimal,false,3,5`.
+//! PREFIX counts characters. PLACE is where the cursor starts in TEXT, a boundary of a
+//! character; STANDS is where it stands afterwards, counted from the start of TEXT.
+//! From `ident` on, a text that is not UTF-8 is answered `bad PLACE` as `utf8` says, and
+//! a panic in 000 `panic`.
+//!
 //! The lists are believed: a caller lends only lists that obey the rules.
+
+mod tokens;
 
 use std::io::{self, BufRead, Write};
 
+use rustc_lexer::FrontmatterAllowed;
 use unicode_properties::UnicodeEmoji;
 
 type Answer = Result<String, String>;
@@ -54,11 +70,42 @@ fn answer(words: &[&str]) -> Answer {
             })
         }
         ["runs", name] => Ok(runs(class(name)?)),
-        ["ident", text @ ..] => Ok(match utf8(&bytes(text)?) {
-            Ok(text) => yes_no(rustc_lexer::is_ident(text)).to_string(),
-            Err(place) => format!("bad {place:x}"),
-        }),
+        ["ident", text @ ..] => {
+            about(text, |text| Ok(yes_no(rustc_lexer::is_ident(text)).to_string()))
+        }
+        ["tokens", allowed, text @ ..] => {
+            let allowed = frontmatter(allowed)?;
+            about(text, |text| Ok(tokens::tokens(text, allowed)))
+        }
+        ["shebang", text @ ..] => about(text, |text| Ok(tokens::shebang(text))),
+        ["raw", prefix, text @ ..] => {
+            let prefix = number(prefix)?;
+            about(text, |text| Ok(tokens::raw(text, prefix)))
+        }
+        ["guarded", place, text @ ..] => {
+            let place = number(place)? as usize;
+            about(text, |text| match text.is_char_boundary(place) {
+                true => Ok(tokens::guarded(text, place)),
+                false => Err(format!("no boundary: {place:x}")),
+            })
+        }
         _ => Err("unknown request".to_string()),
+    }
+}
+
+/// The answer about a text, or where it ceases to be UTF-8.
+fn about(words: &[&str], call: impl FnOnce(&str) -> Answer) -> Answer {
+    match utf8(&bytes(words)?) {
+        Ok(text) => call(text),
+        Err(place) => Ok(format!("bad {place:x}")),
+    }
+}
+
+fn frontmatter(word: &str) -> Result<FrontmatterAllowed, String> {
+    match word {
+        "on" => Ok(FrontmatterAllowed::Yes),
+        "off" => Ok(FrontmatterAllowed::No),
+        _ => Err(format!("neither on nor off: {word}")),
     }
 }
 
