@@ -14,21 +14,27 @@
 //! | `ident TEXT`              | `yes` or `no`                                              |
 //! | `tokens ALLOWED TEXT`     | all tokens but Eof, parted by spaces; `-` where there is none |
 //! | `shebang TEXT`            | `none`, or the length of the shebang                       |
-//! | `raw PREFIX TEXT`         | `ok`, `InvalidStarter CHARACTER`, `TooManyDelimiters FOUND`, or `NoTerminator EXPECTED FOUND OFFSET`, where OFFSET may be `none` |
+//! | `raw PREFIX TEXT`         | `ok`, or the error as below                                |
 //! | `guarded PLACE TEXT`      | `none STANDS`, or `found HASHES TERMINATED LENGTH STANDS`  |
 //!
 //! NAME is `whitespace`, `horizontal`, `start`, `continue` or `emoji`. The runs are
 //! the longest of equal answers, over all scalar values in order; none crosses the
 //! surrogates. A request that is not understood is answered `error` and why.
 //!
-//! ALLOWED says whether frontmatter is: `on` or `off`. A token is its kind, what the
-//! kind holds in the order of 000's fields, and its length, parted by commas; what is
-//! missing is `none`, and doc styles are `outer` and `inner`: `Plus,1`, `Lifetime,false,2`,
+//! From `ident` on, a text that is not UTF-8 is answered `bad PLACE` as `utf8` says; from
+//! `tokens` on, a panic of 000 is answered `panic`.
+//!
+//! ALLOWED says whether frontmatter is: `on` or `off`. A token is its kind, what the kind
+//! holds in the order of 000's fields, and its length, parted by commas. What is missing
+//! is `none`; a doc style is `outer` or `inner`: `Plus,1`, `Lifetime,false,2`,
 //! `BlockComment,outer,true,6`, `Literal,RawStr,none,4,4`, `Literal,Int,Decimal,false,3,5`.
-//! PREFIX counts characters. PLACE is where the cursor starts in TEXT, a boundary of a
-//! character; STANDS is where it stands afterwards, counted from the start of TEXT.
-//! From `ident` on, a text that is not UTF-8 is answered `bad PLACE` as `utf8` says, and
-//! a panic in 000 `panic`.
+//!
+//! PREFIX counts characters. The errors are `InvalidStarter CHARACTER`, `NoTerminator
+//! EXPECTED FOUND OFFSET` (OFFSET may be `none`) and `TooManyDelimiters FOUND`.
+//!
+//! PLACE is where the cursor starts in TEXT, and STANDS where it stands afterwards; both
+//! count bytes from the start of TEXT. A PLACE that is no boundary of a character is an
+//! `error`. LENGTH counts from PLACE.
 //!
 //! The lists are believed: a caller lends only lists that obey the rules.
 

@@ -11,8 +11,11 @@ ghost use Rattle.classes.specs.Whitespace.{isWhitespace, isHorizontalWhi
 ghost use Rattle.classes.specs.Identifiers.{idStart, idContinue, isIdent};
 ghost use Rattle.classes.specs.Emoji.{emojiChar};
 ghost use Rattle.classes.specs.Answers.{answerOf, answerNumbers, idStartAnswer, idContinueAnswer, emojiAnswer, identVerdict, identAnswer};
-use refusal::{Bad, Numbers, Verdict};
-use text::{CodePoint, Decoded};
+use refusal::Bad;
+use refusal::Numbers;
+use refusal::Verdict;
+use text::CodePoint;
+use text::Decoded;
 
 // A class call's answer: yes or no, or a refusal.
 pub enum Answer {
@@ -114,7 +117,11 @@ pub fn emoji_char(c: CodePoint, emoji: &[u32]) -> bool
     requires { ⌜ Good (now emoji) ⌝ }
     ensures { λ r. ⌜ r ≡ emojiChar (now (emoji .entry)) c ⌝ }
 {
-    if c < 0x80 { false } else { lists::in_pairs(c, emoji) }
+    if c < 0x80 {
+        false
+    } else {
+        lists::in_pairs(c, emoji)
+    }
 }
 
 // PUBLIC. Whether c starts an identifier; refusal 3 where the list breaks a rule.

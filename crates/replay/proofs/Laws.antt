@@ -32,7 +32,7 @@ module _ {n : ℕ} {t : Tally} (g : Counted n t) {o a b c d : ℕ} {v : Vector} 
 
 -- past the three lists and the count of a section
 module _ {n : ℕ} {t : Tally} (g : Counted n t) {a b c d e f : ℕ} {p q r : Part} (h₁ : InFile n (t .at) p) (e₁ : p ≡ At a b) (h₂ : InFile n b q) (e₂ : q ≡ At c d)
-  (h₃ : InFile n d r) (e₃ : r ≡ At e f) where
+    (h₃ : InFile n d r) (e₃ : r ≡ At e f) where
   pub header-room : f ≤ n
   header-room = placed n d h₃ e₃ .room
 

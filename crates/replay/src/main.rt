@@ -58,7 +58,14 @@ fn class(operation: u32, c: u32, starts: &[u32], continues: &[u32], emoji: &[u32
 }
 
 // The same of every number from low to high: the answer that all of them have.
-fn class_run(operation: u32, low: u32, high: u32, starts: &[u32], continues: &[u32], emoji: &[u32]) -> Numbers {
+fn class_run(
+    operation: u32,
+    low: u32,
+    high: u32,
+    starts: &[u32],
+    continues: &[u32],
+    emoji: &[u32],
+) -> Numbers {
     let first = class(operation, low, starts, continues, emoji);
     let mut c = low;
     while c < high {
@@ -130,7 +137,14 @@ fn verdicts_after(text: &[u8], out: &mut [u8]) -> usize
 }
 
 // The answer of an operation, put into out: how many bytes it took.
-fn answer(operation: u32, input: &[u8], starts: &[u32], continues: &[u32], emoji: &[u32], out: &mut [u8]) -> usize
+fn answer(
+    operation: u32,
+    input: &[u8],
+    starts: &[u32],
+    continues: &[u32],
+    emoji: &[u32],
+    out: &mut [u8],
+) -> usize
     ensures { λ r. ⌜ r ≤ length (now (out .exit)) ⌝ }
 {
     match operation {
@@ -139,9 +153,15 @@ fn answer(operation: u32, input: &[u8], starts: &[u32], continues: &[u32], emoji
         3..=7 => {
             let low = vectors::number(input, 0);
             let high = vectors::number(input, 4);
-            vectors::put_numbers(out, class_run(operation, low, high, starts, continues, emoji))
+            vectors::put_numbers(
+                out,
+                class_run(operation, low, high, starts, continues, emoji),
+            )
         }
-        8 => vectors::put_numbers(out, classes::answer_numbers(classes::is_ident(input, starts, continues))),
+        8 => vectors::put_numbers(
+            out,
+            classes::answer_numbers(classes::is_ident(input, starts, continues)),
+        ),
         _ => 0,
     }
 }
@@ -164,7 +184,16 @@ fn broken(t: Tally) -> Tally
 }
 
 // Whether the answer of an operation on a part of a file is the answer that stands in another part.
-fn agrees(s: &[u8], operation: u32, input: Span, stored: Span, starts: &[u32], continues: &[u32], emoji: &[u32], out: &mut [u8]) -> bool
+fn agrees(
+    s: &[u8],
+    operation: u32,
+    input: Span,
+    stored: Span,
+    starts: &[u32],
+    continues: &[u32],
+    emoji: &[u32],
+    out: &mut [u8],
+) -> bool
     requires { ⌜ Within (length (now s)) input × Within (length (now s)) stored ⌝ }
 {
     let a = input.from;
@@ -176,7 +205,14 @@ fn agrees(s: &[u8], operation: u32, input: Span, stored: Span, starts: &[u32], c
 }
 
 // The vector at the tally's place.
-fn step(s: &[u8], t: Tally, starts: &[u32], continues: &[u32], emoji: &[u32], out: &mut [u8]) -> Tally
+fn step(
+    s: &[u8],
+    t: Tally,
+    starts: &[u32],
+    continues: &[u32],
+    emoji: &[u32],
+    out: &mut [u8],
+) -> Tally
     requires { ⌜ Counted (length (now s)) t ⌝ }
     ensures { λ r. ⌜ Counted (length (now (s .entry))) r ⌝ }
 {
@@ -204,7 +240,15 @@ fn step(s: &[u8], t: Tally, starts: &[u32], continues: &[u32], emoji: &[u32], ou
 }
 
 // As many vectors as `count` says.
-fn steps(s: &[u8], from: Tally, count: u32, starts: &[u32], continues: &[u32], emoji: &[u32], out: &mut [u8]) -> Tally
+fn steps(
+    s: &[u8],
+    from: Tally,
+    count: u32,
+    starts: &[u32],
+    continues: &[u32],
+    emoji: &[u32],
+    out: &mut [u8],
+) -> Tally
     requires { ⌜ Counted (length (now s)) from ⌝ }
     ensures { λ r. ⌜ Counted (length (now (s .entry))) r ⌝ }
 {
@@ -228,7 +272,15 @@ fn list_room() -> [u32; 4200]
 }
 
 // The vectors of a section, with the lists that stand in three parts of the file.
-fn with_lists(s: &[u8], first: Tally, count: u32, starts_at: Span, continues_at: Span, emoji_at: Span, out: &mut [u8]) -> Tally
+fn with_lists(
+    s: &[u8],
+    first: Tally,
+    count: u32,
+    starts_at: Span,
+    continues_at: Span,
+    emoji_at: Span,
+    out: &mut [u8],
+) -> Tally
     requires { ⌜ Counted (length (now s)) first ⌝ }
     ensures { λ r. ⌜ Counted (length (now (s .entry))) r ⌝ }
 {
@@ -238,7 +290,15 @@ fn with_lists(s: &[u8], first: Tally, count: u32, starts_at: Span, continues_at:
     let j = vectors::load(s, continues_at.from, continues_at.to, &mut continues);
     let mut emoji = list_room();
     let k = vectors::load(s, emoji_at.from, emoji_at.to, &mut emoji);
-    steps(s, first, count, &starts[..i], &continues[..j], &emoji[..k], out)
+    steps(
+        s,
+        first,
+        count,
+        &starts[..i],
+        &continues[..j],
+        &emoji[..k],
+        out,
+    )
 }
 
 // One section: three lists, a count, and so many vectors.
@@ -268,7 +328,15 @@ fn section(s: &[u8], t: Tally, out: &mut [u8]) -> Tally
     let starts = Span { from: a, to: b };
     let continues = Span { from: c, to: d };
     let emoji = Span { from: e, to: f };
-    with_lists(s, first, vectors::number(s, f), starts, continues, emoji, out)
+    with_lists(
+        s,
+        first,
+        vectors::number(s, f),
+        starts,
+        continues,
+        emoji,
+        out,
+    )
 }
 
 // Every section of a file.

@@ -79,7 +79,7 @@ fact-of (two {a} {b} l h tb) =
       wide = width-2 v (omega arith) (omega arith);
       room = omega arith;
       scalar = inl (omega arith);
-      coded = rw (encode-2 v (omega arith) (omega arith), e₁, e₂)
+      coded = rw (encode-2 v (omega arith) (omega arith), e₁, e₂);
     }
 fact-of (three {a} {b} {c} l h tb tc m sc) =
     let v = value3 a b c in
@@ -91,7 +91,7 @@ fact-of (three {a} {b} {c} l h tb tc m sc) =
       wide = width-3 v m (omega arith);
       room = omega arith;
       scalar = sc;
-      coded = rw (encode-3 v m (omega arith), e₁, e₂, e₃)
+      coded = rw (encode-3 v m (omega arith), e₁, e₂, e₃);
     }
 fact-of (four {a} {b} {c} {d} l h tb tc td m t) =
     let v = value4 a b c d in
@@ -104,7 +104,7 @@ fact-of (four {a} {b} {c} {d} l h tb tc td m t) =
       wide = width-4 v m;
       room = omega arith;
       scalar = inr (omega arith, t);
-      coded = rw (encode-4 v m, e₁, e₂, e₃, e₄)
+      coded = rw (encode-4 v m, e₁, e₂, e₃, e₄);
     }
 
 pub fact : (s : List ℕ) → FactOf s (decoded s)

@@ -52,6 +52,7 @@ boundary-parts = by-chars (λ (s : List ℕ). (at : ℕ) → onBoundary s at ≡
   where
     at-none : (s : List ℕ) (at : ℕ) → edge [] at ≡ true → Parted s at
     at-none s at e = let z : at ≡ 0 = eqb-true at 0 (unfold edge in e) in rw z (none-before s)
+
     more : (s : List ℕ) (c w : ℕ) → Fact s c w → chars s ≡ c ∷ chars (drop w s) → (at : ℕ) → width c ≤ at → Parted (drop w s) (at - w) → Parted s at
     more s c w f n at l p =
         let j : w + (at - w) ≡ at = omega (arith, f .wide) in

@@ -44,21 +44,21 @@ told s e = subst (λ (d : Decoded). FactOf s d) e (fact s)
 
 -- An induction over the characters of a text: what holds at the end, at an ill-formed sequence, and of a character if of the text after it.
 module _ (P : List ℕ → Type 0)
-  (none : (s : List ℕ) → chars s ≡ [] → P s)
-  (more : (s : List ℕ) (c w : ℕ) → decoded s ≡ Char c w → Fact s c w → chars s ≡ c ∷ chars (drop w s) → P (drop w s) → P s)
+    (none : (s : List ℕ) → chars s ≡ [] → P s)
+    (more : (s : List ℕ) (c w : ℕ) → decoded s ≡ Char c w → Fact s c w → chars s ≡ c ∷ chars (drop w s) → P (drop w s) → P s)
   where
-  by-one : (n : ℕ) (s : List ℕ) (d : Decoded) → decoded s ≡ d → length s ≤ suc n → ((t : List ℕ) → length t ≤ n → P t) → P s
-  by-one n s (Char c w) e l ih = more s c w e (told s e) (stepped s e) (ih (drop w s) (omega (arith, length-drop w s, told s e .some)))
-  by-one n s End e l ih = none s (stepped s e)
-  by-one n s Ill e l ih = none s (stepped s e)
+    by-one : (n : ℕ) (s : List ℕ) (d : Decoded) → decoded s ≡ d → length s ≤ suc n → ((t : List ℕ) → length t ≤ n → P t) → P s
+    by-one n s (Char c w) e l ih = more s c w e (told s e) (stepped s e) (ih (drop w s) (omega (arith, length-drop w s, told s e .some)))
+    by-one n s End e l ih = none s (stepped s e)
+    by-one n s Ill e l ih = none s (stepped s e)
 
-  by-length : (n : ℕ) (s : List ℕ) → length s ≤ n → P s
-  by-length zero [] l = none [] (unfold charsAfter in refl)
-  by-length zero (a ∷ s) l = absurd (omega arith)
-  by-length (suc n) s l = by-one n s (decoded s) refl l (by-length n)
+    by-length : (n : ℕ) (s : List ℕ) → length s ≤ n → P s
+    by-length zero [] l = none [] (unfold charsAfter in refl)
+    by-length zero (a ∷ s) l = absurd (omega arith)
+    by-length (suc n) s l = by-one n s (decoded s) refl l (by-length n)
 
-  pub by-chars : (s : List ℕ) → P s
-  by-chars s = by-length (length s) s (omega arith)
+    pub by-chars : (s : List ℕ) → P s
+    by-chars s = by-length (length s) s (omega arith)
 
 -- the characters of a text are scalar values
 pub scalars : (s : List ℕ) → Scalars (chars s)

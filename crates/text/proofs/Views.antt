@@ -22,9 +22,9 @@ pub data View : List ℕ → Decoded → Type 0 where
   one : {a : ℕ} {s : List ℕ} → a ≤ 0x7F → View (a ∷ s) (Char a 1)
   two : {a b : ℕ} {s : List ℕ} → 0xC2 ≤ a → a ≤ 0xDF → Tail b → View (a ∷ b ∷ s) (Char (value2 a b) 2)
   three : {a b c : ℕ} {s : List ℕ} → 0xE0 ≤ a → a ≤ 0xEF → Tail b → Tail c → 0x800 ≤ value3 a b c → Scalar (value3 a b c)
-    → View (a ∷ b ∷ c ∷ s) (Char (value3 a b c) 3)
+      → View (a ∷ b ∷ c ∷ s) (Char (value3 a b c) 3)
   four : {a b c d : ℕ} {s : List ℕ} → 0xF0 ≤ a → a ≤ 0xF4 → Tail b → Tail c → Tail d → 0x10000 ≤ value4 a b c d → value4 a b c d < 0x110000
-    → View (a ∷ b ∷ c ∷ d ∷ s) (Char (value4 a b c d) 4)
+      → View (a ∷ b ∷ c ∷ d ∷ s) (Char (value4 a b c d) 4)
 
 -- a byte that has to come next comes, or the sequence is ill-formed
 by-byte : (P : List ℕ → Decoded → Type 0) (low high : ℕ) (s : List ℕ) (f : ℕ → List ℕ → Decoded)

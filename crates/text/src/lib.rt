@@ -5,7 +5,8 @@ ghost use lib.ListN.{length, drop};
 ghost use Rattle.text.specs.Utf8.{value2, value3, value4, two, three, four, lead, decoded};
 ghost use Rattle.text.specs.Next.{next, Lead, Second, Tail};
 ghost use Rattle.text.specs.Verdicts.{tooLong, utf8Verdict, textVerdict};
-use refusal::{Bad, Verdict};
+use refusal::Bad;
+use refusal::Verdict;
 
 // A code point: the number type that stands for 000's `char`. Any number may be handed in where one is taken.
 pub type CodePoint = u32;

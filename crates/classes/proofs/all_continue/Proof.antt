@@ -1,3 +1,4 @@
+-- `classes::all_continue` meets its contract. The answer from the loop's place on is the answer from the start on (Idents).
 use Rattle.classes.proofs.Idents.{Onward, onward-none, onward-more, onward-not, onward-end, onward-ill}
 use Rattle.text.proofs.Places.{char-room, char-less}
 use native.Mathlib.Omega.{arith}
@@ -6,10 +7,6 @@ use Prim.Native.Nat.{_-_}
 use borrow.Author.Needs.{needs}
 use Rattle.classes.proofs.all_continue.Statement.{statement}
 use Rattle.classes.proofs.all_continue.Tie as tie
-use Rattle.classes.proofs.all_continue.Reads as reads
-use Rattle.classes.proofs.all_continue.Lts as lts
-use Rattle.classes.proofs.id_continue.Reads as id-continue-reads
-use Rattle.text.proofs.decode.Reads as decode-reads
 
 abbrev Inv-loop : tie.InvT-loop
 Inv-loop text from continues at₀ at = Onward continues text from at
@@ -17,51 +14,39 @@ Inv-loop text from continues at₀ at = Onward continues text from at
 abbrev μ-loop : tie.MeasureT-loop
 μ-loop text from continues at₀ at = length text - at
 
--- src/lib.rt:156:5
 loop-holds : tie.Need-loop-holds Inv-loop μ-loop
 loop-holds c = onward-none _ _ _
 
--- src/lib.rt:157:15
 decode-requires : tie.Need-decode-requires Inv-loop μ-loop
 decode-requires c κs = search needs
 
--- src/lib.rt:158:27
 enum-known-c : tie.Need-enum-known-c Inv-loop μ-loop
 enum-known-c c = search needs
 
--- src/lib.rt:159:20
 id-continue-requires : tie.Need-id-continue-requires Inv-loop μ-loop
 id-continue-requires c κs = search needs
 
--- src/lib.rt:160:21
 add-at : tie.Need-add-at Inv-loop μ-loop
 add-at c = let o = c .before .before .before .before .before .before in omega (arith, char-room (o .before .before .before .args .text .now) (o .loop .at) (c .before .before .before .before .before .decode .ensures) (c .before .before .before .c .given .1))
 
--- src/lib.rt:156:5
 loop-less : tie.Need-loop-less Inv-loop μ-loop
 loop-less c = search char-less
 
--- src/lib.rt:156:5
 loop-again : tie.Need-loop-again Inv-loop μ-loop
 loop-again c = search onward-more
 
--- src/lib.rt:162:21
 returns : tie.Need-returns Inv-loop μ-loop
 returns c = search onward-not
 
--- src/lib.rt:165:29
 enum-told : tie.Need-enum-told Inv-loop μ-loop
 enum-told c = search needs
 
--- src/lib.rt:165:29
 returns-2 : tie.Need-returns-2 Inv-loop μ-loop
 returns-2 c = search onward-end
 
--- src/lib.rt:166:29
 enum-told-2 : tie.Need-enum-told-2 Inv-loop μ-loop
 enum-told-2 c = search needs
 
--- src/lib.rt:166:29
 returns-3 : tie.Need-returns-3 Inv-loop μ-loop
 returns-3 c = search onward-ill
 

@@ -1,45 +1,34 @@
+-- `classes::is_whitespace` meets its contract. By the points of the match, which the compiler joins to ranges where they are neighbours (Points).
 use mathlib.Core.Logic.{inr}
 use Rattle.classes.proofs.Points.{no-white, line-white, mark-white, separator-white, next-line-white, blank-white}
 use native.Mathlib.Omega.{arith}
-use borrow.Author.Needs.{needs}
 use Rattle.classes.proofs.is_whitespace.Statement.{statement}
 use Rattle.classes.proofs.is_whitespace.Tie as tie
-use Rattle.classes.proofs.is_whitespace.Reads as reads
-use Rattle.classes.proofs.is_whitespace.Lts as lts
 
--- src/lib.rt:48:1
 returns : tie.Need-returns
 returns c = blank-white _ (c .match .keys2)
 
--- src/lib.rt:48:1
 returns-2 : tie.Need-returns-2
 returns-2 c = mark-white _ (omega arith) (omega arith)
 
--- src/lib.rt:48:1
 returns-3 : tie.Need-returns-3
 returns-3 c = no-white _ (λ e. omega arith) (λ e. omega arith) (λ e. omega arith) (λ e. omega arith) (λ e. omega arith) (λ e. omega arith) (λ e. omega arith) (λ e. omega arith) (λ e. omega arith) (λ e. omega arith) (λ e. omega arith)
 
--- src/lib.rt:48:1
 returns-4 : tie.Need-returns-4
 returns-4 c = no-white _ (λ e. omega arith) (λ e. omega arith) (λ e. omega arith) (λ e. omega arith) (λ e. omega arith) (λ e. c .before .before .before .match .rest .1 (inr e)) (λ e. omega arith) (λ e. omega arith) (λ e. omega arith) (λ e. omega arith) (λ e. omega arith)
 
--- src/lib.rt:48:1
 returns-5 : tie.Need-returns-5
 returns-5 c = no-white _ (λ e. omega arith) (λ e. omega arith) (λ e. omega arith) (λ e. omega arith) (λ e. omega arith) (λ e. omega arith) (λ e. omega arith) (λ e. omega arith) (λ e. omega arith) (λ e. omega arith) (λ e. omega arith)
 
--- src/lib.rt:48:1
 returns-6 : tie.Need-returns-6
 returns-6 c = no-white _ (λ e. omega arith) (λ e. omega arith) (λ e. omega arith) (λ e. omega arith) (λ e. omega arith) (λ e. omega arith) (λ e. omega arith) (λ e. omega arith) (λ e. omega arith) (λ e. omega arith) (λ e. omega arith)
 
--- src/lib.rt:48:1
 returns-7 : tie.Need-returns-7
 returns-7 c = next-line-white _ (c .match .keys1)
 
--- src/lib.rt:48:1
 returns-8 : tie.Need-returns-8
 returns-8 c = line-white _ (omega arith) (omega arith)
 
--- src/lib.rt:48:1
 returns-9 : tie.Need-returns-9
 returns-9 c = separator-white _ (omega arith) (omega arith)
 

@@ -1,32 +1,25 @@
+-- `refusal::bad_numbers` meets its contract. By the cases of the refusal.
 use mathlib.Core.Path.{sym, ap}
 use Rattle.refusal.specs.Numbers.{badNumbers}
 use borrow.Author.Needs.{needs}
 use Rattle.refusal.proofs.bad_numbers.Statement.{statement}
 use Rattle.refusal.proofs.bad_numbers.Tie as tie
-use Rattle.refusal.proofs.bad_numbers.Reads as reads
-use Rattle.refusal.proofs.bad_numbers.Lts as lts
 
--- src/lib.rt:34:25
 enum-told : tie.Need-enum-told
 enum-told c = search needs
 
--- src/lib.rt:39:19
 enum-known-bad : tie.Need-enum-known-bad
 enum-known-bad c = search needs
 
--- src/lib.rt:44:22
 enum-known-bad-2 : tie.Need-enum-known-bad-2
 enum-known-bad-2 c = search needs
 
--- src/lib.rt:30:1
 returns : tie.Need-returns
 returns c = sym (ap badNumbers (c .enum-told .given .1))
 
--- src/lib.rt:30:1
 returns-2 : tie.Need-returns-2
 returns-2 c = sym (ap badNumbers (c .before .bad .given .1))
 
--- src/lib.rt:30:1
 returns-3 : tie.Need-returns-3
 returns-3 c = sym (ap badNumbers (c .before .bad2 .given .1))
 

@@ -1,25 +1,20 @@
+-- `refusal::first` meets its contract. By the cases of the first check.
 use mathlib.Core.Path.{sym, ap}
 use Rattle.refusal.specs.declared.Verdict.{Verdict}
 use Rattle.refusal.specs.Order as order
 use borrow.Author.Needs.{needs}
 use Rattle.refusal.proofs.first.Statement.{statement}
 use Rattle.refusal.proofs.first.Tie as tie
-use Rattle.refusal.proofs.first.Reads as reads
-use Rattle.refusal.proofs.first.Lts as lts
 
--- src/lib.rt:70:26
 enum-told : tie.Need-enum-told
 enum-told c = search needs
 
--- src/lib.rt:71:26
 enum-known-one : tie.Need-enum-known-one
 enum-known-one c = search needs
 
--- src/lib.rt:66:1
 returns : tie.Need-returns
 returns c = search needs
 
--- src/lib.rt:66:1
 returns-2 : tie.Need-returns-2
 returns-2 c = sym (ap (λ (v : Verdict). order.first v (c .before .before .before .args .next)) (c .before .one .given .1))
 

@@ -1,19 +1,14 @@
+-- `refusal::in_order` meets its contract. The calls of `first` compose as the definition does.
 use borrow.Author.Needs.{needs}
 use Rattle.refusal.proofs.in_order.Statement.{statement}
 use Rattle.refusal.proofs.in_order.Tie as tie
-use Rattle.refusal.proofs.in_order.Reads as reads
-use Rattle.refusal.proofs.in_order.Lts as lts
-use Rattle.refusal.proofs.first.Reads as first-reads
 
--- src/lib.rt:79:17
 first-requires : tie.Need-first-requires
 first-requires c κs = search needs
 
--- src/lib.rt:79:5
 first-requires-2 : tie.Need-first-requires-2
 first-requires-2 c κs = search needs
 
--- src/lib.rt:76:1
 returns : tie.Need-returns
 returns c = cc
 

@@ -1,58 +1,43 @@
+-- `replay::agrees` meets its contract. Every place lies within the file, and every loop ends.
 use lib.Seq.{length-take-le}
 use mathlib.Core.Path.{sym}
 use borrow.Author.Needs.{needs}
 use Rattle.replay.proofs.agrees.Statement.{statement}
 use Rattle.replay.proofs.agrees.Tie as tie
-use Rattle.replay.proofs.agrees.Reads as reads
-use Rattle.replay.proofs.agrees.Lts as lts
-use Rattle.check.proofs.same.Reads as same-reads
-use Rattle.replay.proofs.answer.Reads as answer-reads
 
--- src/main.rt:174:31
 sub-answer : tie.Need-sub-answer
 sub-answer c = search needs
 
--- src/main.rt:174:31
 part-answer-start : tie.Need-part-answer-start
 part-answer-start c = search needs
 
--- src/main.rt:174:31
 part-answer-end : tie.Need-part-answer-end
 part-answer-end c = search needs
 
--- src/main.rt:174:9
 answer-requires : tie.Need-answer-requires
 answer-requires c κs = search needs
 
--- src/main.rt:175:17
 slice-reshare-prefix-same : tie.Need-slice-reshare-prefix-same
 slice-reshare-prefix-same c = search needs
 
--- src/main.rt:175:17
 slice-aggregate-same : tie.Need-slice-aggregate-same
 slice-aggregate-same c = sym (length-take-le _ _ (c .before .before .before .answer .ensures))
 
--- src/main.rt:175:28
 sub-same : tie.Need-sub-same
 sub-same c = search needs
 
--- src/main.rt:175:28
 part-same-start : tie.Need-part-same-start
 part-same-start c = search needs
 
--- src/main.rt:175:28
 part-same-end : tie.Need-part-same-end
 part-same-end c = search needs
 
--- src/main.rt:175:5
 same-requires : tie.Need-same-requires
 same-requires c κs = search needs
 
--- src/main.rt:167:1
 same-length : tie.Need-same-length
 same-length c = search needs
 
--- src/main.rt:167:1
 returns : tie.Need-returns
 returns c = search needs
 

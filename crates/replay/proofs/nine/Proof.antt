@@ -1,13 +1,10 @@
-use native.Mathlib.Omega.{arith}
+-- `replay::nine` meets its contract. Every place lies within the file, and every loop ends.
 use lib.ListN.{length}
 use mathlib.Core.Path.{_≡_}
 use Prim.Native.Nat.{_≤_, _-_}
 use borrow.Author.Needs.{needs}
 use Rattle.replay.proofs.nine.Statement.{statement}
 use Rattle.replay.proofs.nine.Tie as tie
-use Rattle.replay.proofs.nine.Reads as reads
-use Rattle.replay.proofs.nine.Lts as lts
-use Rattle.replay.proofs.byte_then.Reads as byte-then-reads
 
 abbrev Inv-loop : tie.InvT-loop
 Inv-loop text b out₀ i₀ out i = 9 ≡ length out
@@ -15,31 +12,24 @@ Inv-loop text b out₀ i₀ out i = 9 ≡ length out
 abbrev μ-loop : tie.MeasureT-loop
 μ-loop text b out₀ i₀ out i = 9 - i
 
--- src/main.rt:92:5
 loop-holds : tie.Need-loop-holds Inv-loop μ-loop
 loop-holds c = search needs
 
--- src/main.rt:93:13
 byte-then-requires : tie.Need-byte-then-requires Inv-loop μ-loop
 byte-then-requires c κs = search needs
 
--- src/main.rt:94:9
 array-write-out : tie.Need-array-write-out Inv-loop μ-loop
 array-write-out c = search needs
 
--- src/main.rt:95:9
 add-i : tie.Need-add-i Inv-loop μ-loop
 add-i c = search needs
 
--- src/main.rt:92:5
 loop-less : tie.Need-loop-less Inv-loop μ-loop
 loop-less c = search needs
 
--- src/main.rt:92:5
 loop-again : tie.Need-loop-again Inv-loop μ-loop
 loop-again c = search needs
 
--- src/main.rt:87:1
 returns : tie.Need-returns Inv-loop μ-loop
 returns c = search needs
 

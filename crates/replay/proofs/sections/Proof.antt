@@ -1,3 +1,4 @@
+-- `replay::sections` meets its contract. Every place lies within the file, and every loop ends.
 use Rattle.replay.specs.Counted.{Counted}
 use lib.ListN.{length}
 use mathlib.Core.Path.{_≡_}
@@ -5,10 +6,6 @@ use Prim.Native.Nat.{_-_}
 use borrow.Author.Needs.{needs}
 use Rattle.replay.proofs.sections.Statement.{statement}
 use Rattle.replay.proofs.sections.Tie as tie
-use Rattle.replay.proofs.sections.Reads as reads
-use Rattle.replay.proofs.sections.Lts as lts
-use Rattle.replay.proofs.broken.Reads as broken-reads
-use Rattle.replay.proofs.section.Reads as section-reads
 
 abbrev Inv-loop : tie.InvT-loop
 Inv-loop s out₀ t₀ out t = (Counted (length s) t) × (length out ≡ length out₀)
@@ -16,47 +13,36 @@ Inv-loop s out₀ t₀ out t = (Counted (length s) t) × (length out ≡ length 
 abbrev μ-loop : tie.MeasureT-loop
 μ-loop s out₀ t₀ out t = length s - t .at
 
--- src/main.rt:255:5
 loop-holds : tie.Need-loop-holds Inv-loop μ-loop
 loop-holds c = search needs
 
--- src/main.rt:258:13
 same-length : tie.Need-same-length Inv-loop μ-loop
 same-length c = search needs
 
--- src/main.rt:258:13
 returns : tie.Need-returns Inv-loop μ-loop
 returns c = search needs
 
--- src/main.rt:261:13
 same-length-2 : tie.Need-same-length-2 Inv-loop μ-loop
 same-length-2 c = search needs
 
--- src/main.rt:261:13
 returns-2 : tie.Need-returns-2 Inv-loop μ-loop
 returns-2 c = search needs
 
--- src/main.rt:263:13
 section-requires : tie.Need-section-requires Inv-loop μ-loop
 section-requires c κs = search needs
 
--- src/main.rt:265:13
 broken-requires : tie.Need-broken-requires Inv-loop μ-loop
 broken-requires c κs = search needs
 
--- src/main.rt:265:13
 same-length-3 : tie.Need-same-length-3 Inv-loop μ-loop
 same-length-3 c = search needs
 
--- src/main.rt:265:13
 returns-3 : tie.Need-returns-3 Inv-loop μ-loop
 returns-3 c = search needs
 
--- src/main.rt:255:5
 loop-less : tie.Need-loop-less Inv-loop μ-loop
 loop-less c = search needs
 
--- src/main.rt:255:5
 loop-again : tie.Need-loop-again Inv-loop μ-loop
 loop-again c = search needs
 

@@ -1,63 +1,45 @@
+-- `replay::step` meets its contract. Every place lies within the file, and every loop ends.
 use Rattle.replay.proofs.Laws.{parts-within, one-same, one-other}
 use borrow.Author.Needs.{needs}
 use Rattle.replay.proofs.step.Statement.{statement}
 use Rattle.replay.proofs.step.Tie as tie
-use Rattle.replay.proofs.step.Reads as reads
-use Rattle.replay.proofs.step.Lts as lts
-use Rattle.replay.proofs.agrees.Reads as agrees-reads
-use Rattle.replay.proofs.broken.Reads as broken-reads
-use Rattle.replay.proofs.say_bad.Reads as say-bad-reads
-use Rattle.vectors.proofs.vector_at.Reads as vector-at-reads
 
--- src/main.rt:184:45
 vector-at-requires : tie.Need-vector-at-requires
 vector-at-requires c κs = search needs
 
--- src/main.rt:184:20
 enum-known-operation : tie.Need-enum-known-operation
 enum-known-operation c = search needs
 
--- src/main.rt:185:9
 enum-told : tie.Need-enum-told
 enum-told c = search needs
 
--- src/main.rt:185:9
 broken-requires : tie.Need-broken-requires
 broken-requires c κs = search needs
 
--- src/main.rt:185:9
 returns : tie.Need-returns
 returns c = search needs
 
--- src/main.rt:189:8
 agrees-requires : tie.Need-agrees-requires
 agrees-requires c κs = parts-within _ _ (c .before .before .before .before .vector-at .ensures) (c .before .before .operation .given .1)
 
--- src/main.rt:192:19
 add-t19 : tie.Need-add-t19
 add-t19 c = search needs
 
--- src/main.rt:190:9
 same-length : tie.Need-same-length
 same-length c = search needs
 
--- src/main.rt:190:9
 returns-2 : tie.Need-returns-2
 returns-2 c = one-same (c .before .before .before .before .before .before .before .before .before .before .before .before .before .before .before .pre) (c .before .before .before .before .before .before .before .before .before .vector-at .ensures) (c .before .before .before .before .before .before .before .operation .given .1)
 
--- src/main.rt:197:5
 say-bad-requires : tie.Need-say-bad-requires
 say-bad-requires c κs = search needs
 
--- src/main.rt:201:16
 add-t21 : tie.Need-add-t21
 add-t21 c = search needs
 
--- src/main.rt:179:1
 same-length-2 : tie.Need-same-length-2
 same-length-2 c = search needs
 
--- src/main.rt:179:1
 returns-3 : tie.Need-returns-3
 returns-3 c = one-other (c .before .before .before .before .before .before .before .before .before .before .before .before .before .before .before .before .pre) (c .before .before .before .before .before .before .before .before .before .before .vector-at .ensures) (c .before .before .before .before .before .before .before .before .operation .given .1)
 

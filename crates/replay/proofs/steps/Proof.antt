@@ -1,12 +1,10 @@
+-- `replay::steps` meets its contract. Every place lies within the file, and every loop ends.
 use Rattle.replay.specs.Counted.{Counted}
 use lib.ListN.{length}
 use mathlib.Core.Path.{_≡_}
 use borrow.Author.Needs.{needs}
 use Rattle.replay.proofs.steps.Statement.{statement}
 use Rattle.replay.proofs.steps.Tie as tie
-use Rattle.replay.proofs.steps.Reads as reads
-use Rattle.replay.proofs.steps.Lts as lts
-use Rattle.replay.proofs.step.Reads as step-reads
 
 abbrev Inv-loop : tie.InvT-loop
 Inv-loop s count starts continues emoji out₀ t₀ left₀ out t left = (Counted (length s) t) × (length out ≡ length out₀)
@@ -14,39 +12,30 @@ Inv-loop s count starts continues emoji out₀ t₀ left₀ out t left = (Counte
 abbrev μ-loop : tie.MeasureT-loop
 μ-loop s count starts continues emoji out₀ t₀ left₀ out t left = left
 
--- src/main.rt:194:5
 loop-holds : tie.Need-loop-holds Inv-loop μ-loop
 loop-holds c = search needs
 
--- src/main.rt:196:13
 same-length : tie.Need-same-length Inv-loop μ-loop
 same-length c = search needs
 
--- src/main.rt:196:13
 returns : tie.Need-returns Inv-loop μ-loop
 returns c = search needs
 
--- src/main.rt:198:9
 step-requires : tie.Need-step-requires Inv-loop μ-loop
 step-requires c κs = search needs
 
--- src/main.rt:199:9
 sub-left : tie.Need-sub-left Inv-loop μ-loop
 sub-left c = search needs
 
--- src/main.rt:194:5
 loop-less : tie.Need-loop-less Inv-loop μ-loop
 loop-less c = search needs
 
--- src/main.rt:194:5
 loop-again : tie.Need-loop-again Inv-loop μ-loop
 loop-again c = search needs
 
--- src/main.rt:188:1
 same-length-2 : tie.Need-same-length-2 Inv-loop μ-loop
 same-length-2 c = search needs
 
--- src/main.rt:188:1
 returns-2 : tie.Need-returns-2 Inv-loop μ-loop
 returns-2 c = search needs
 

@@ -1,83 +1,61 @@
+-- `replay::with_lists` meets its contract. Every place lies within the file, and every loop ends.
 use lib.Seq.{length-take-le}
 use mathlib.Core.Path.{sym}
 use borrow.Author.Needs.{needs}
 use Rattle.replay.proofs.with_lists.Statement.{statement}
 use Rattle.replay.proofs.with_lists.Tie as tie
-use Rattle.replay.proofs.with_lists.Reads as reads
-use Rattle.replay.proofs.with_lists.Lts as lts
-use Rattle.replay.proofs.list_room.Reads as list-room-reads
-use Rattle.replay.proofs.steps.Reads as steps-reads
-use Rattle.vectors.proofs.load.Reads as load-reads
 
--- src/main.rt:235:22
 list-room-requires : tie.Need-list-room-requires
 list-room-requires c κs = search needs
 
--- src/main.rt:236:60
 slice-aggregate-load : tie.Need-slice-aggregate-load
 slice-aggregate-load c = search needs
 
--- src/main.rt:236:9
 load-requires : tie.Need-load-requires
 load-requires c κs = search needs
 
--- src/main.rt:237:25
 list-room-requires-2 : tie.Need-list-room-requires-2
 list-room-requires-2 c κs = search needs
 
--- src/main.rt:238:66
 slice-aggregate-load-2 : tie.Need-slice-aggregate-load-2
 slice-aggregate-load-2 c = search needs
 
--- src/main.rt:238:9
 load-requires-2 : tie.Need-load-requires-2
 load-requires-2 c κs = search needs
 
--- src/main.rt:239:21
 list-room-requires-3 : tie.Need-list-room-requires-3
 list-room-requires-3 c κs = search needs
 
--- src/main.rt:240:58
 slice-aggregate-load-3 : tie.Need-slice-aggregate-load-3
 slice-aggregate-load-3 c = search needs
 
--- src/main.rt:240:9
 load-requires-3 : tie.Need-load-requires-3
 load-requires-3 c κs = search needs
 
--- src/main.rt:241:28
 array-share-prefix-starts : tie.Need-array-share-prefix-starts
 array-share-prefix-starts c = search needs
 
--- src/main.rt:241:28
 slice-aggregate-steps : tie.Need-slice-aggregate-steps
 slice-aggregate-steps c = sym (length-take-le _ _ (c .before .before .before .before .before .before .before .before .before .before .load .ensures))
 
--- src/main.rt:241:42
 array-share-prefix-continues : tie.Need-array-share-prefix-continues
 array-share-prefix-continues c = search needs
 
--- src/main.rt:241:42
 slice-aggregate-steps-2 : tie.Need-slice-aggregate-steps-2
 slice-aggregate-steps-2 c = sym (length-take-le _ _ (c .before .before .before .before .before .before .before .load2 .ensures))
 
--- src/main.rt:241:59
 array-share-prefix-emoji : tie.Need-array-share-prefix-emoji
 array-share-prefix-emoji c = search needs
 
--- src/main.rt:241:59
 slice-aggregate-steps-3 : tie.Need-slice-aggregate-steps-3
 slice-aggregate-steps-3 c = sym (length-take-le _ _ (c .before .before .before .before .load3 .ensures))
 
--- src/main.rt:241:5
 steps-requires : tie.Need-steps-requires
 steps-requires c κs = search needs
 
--- src/main.rt:231:1
 same-length : tie.Need-same-length
 same-length c = search needs
 
--- src/main.rt:231:1
 returns : tie.Need-returns
 returns c = search needs
 

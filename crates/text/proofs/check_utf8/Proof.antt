@@ -1,3 +1,4 @@
+-- `text::check_utf8` meets its contract. The loop has reached a place up to which characters take every byte (Places).
 use Rattle.text.proofs.Places.{Reached, reached-none, char-room, char-less, reached-more, reached-end, reached-ill}
 use native.Mathlib.Omega.{arith}
 use lib.ListN.{length}
@@ -5,9 +6,6 @@ use Prim.Native.Nat.{_+_, _-_, _≤_}
 use borrow.Author.Needs.{needs}
 use Rattle.text.proofs.check_utf8.Statement.{statement}
 use Rattle.text.proofs.check_utf8.Tie as tie
-use Rattle.text.proofs.check_utf8.Reads as reads
-use Rattle.text.proofs.check_utf8.Lts as lts
-use Rattle.text.proofs.decode.Reads as decode-reads
 
 abbrev Inv-loop : tie.InvT-loop
 Inv-loop text at₀ at = Reached text at
@@ -15,43 +13,33 @@ Inv-loop text at₀ at = Reached text at
 abbrev μ-loop : tie.MeasureT-loop
 μ-loop text at₀ at = length text - at
 
--- src/lib.rt:158:5
 loop-holds : tie.Need-loop-holds Inv-loop μ-loop
 loop-holds c = reached-none _
 
--- src/lib.rt:159:15
 decode-requires : tie.Need-decode-requires Inv-loop μ-loop
 decode-requires c κs = search needs
 
--- src/lib.rt:160:30
 enum-known-w : tie.Need-enum-known-w Inv-loop μ-loop
 enum-known-w c = search needs
 
--- src/lib.rt:160:36
 add-at : tie.Need-add-at Inv-loop μ-loop
 add-at c = let o = c .before .before .before .before in omega (arith, char-room (o .before .before .args .text .now) (o .loop .at) (c .before .before .before .decode .ensures) (c .before .w .given .1))
 
--- src/lib.rt:158:5
 loop-less : tie.Need-loop-less Inv-loop μ-loop
 loop-less c = search char-less
 
--- src/lib.rt:158:5
 loop-again : tie.Need-loop-again Inv-loop μ-loop
 loop-again c = search reached-more
 
--- src/lib.rt:161:29
 enum-told : tie.Need-enum-told Inv-loop μ-loop
 enum-told c = search needs
 
--- src/lib.rt:161:29
 returns : tie.Need-returns Inv-loop μ-loop
 returns c = search reached-end
 
--- src/lib.rt:162:53
 enum-told-2 : tie.Need-enum-told-2 Inv-loop μ-loop
 enum-told-2 c = search needs
 
--- src/lib.rt:162:29
 returns-2 : tie.Need-returns-2 Inv-loop μ-loop
 returns-2 c = search reached-ill
 

@@ -1,0 +1,28 @@
+-- Document 01, "Nothing left open": two answers that a call's promise allows for the same arguments are the same answer.
+use mathlib.Core.Path.{_≡_, sym, _∙_}
+use mathlib.Core.Bool.{Bool}
+use Rattle.classes.specs.declared.Answer.{Answer}
+use Rattle.classes.proofs.is_whitespace.Reads as whitespace
+use Rattle.classes.proofs.is_horizontal_whitespace.Reads as horizontal
+use Rattle.classes.proofs.is_id_start.Reads as start
+use Rattle.classes.proofs.is_id_continue.Reads as continue
+use Rattle.classes.proofs.is_emoji_char.Reads as emoji
+use Rattle.classes.proofs.is_ident.Reads as ident
+
+pub one-whitespace : (κs : _) (a : _) (r q : Bool) (x y : _) → whitespace.Post κs a r x → whitespace.Post κs a q y → r ≡ q
+one-whitespace κs a r q x y p e = p ∙ sym e
+
+pub one-horizontal : (κs : _) (a : _) (r q : Bool) (x y : _) → horizontal.Post κs a r x → horizontal.Post κs a q y → r ≡ q
+one-horizontal κs a r q x y p e = p ∙ sym e
+
+pub one-start : (κs : _) (a : _) (r q : Answer) (x y : _) → start.Post κs a r x → start.Post κs a q y → r ≡ q
+one-start κs a r q x y p e = p ∙ sym e
+
+pub one-continue : (κs : _) (a : _) (r q : Answer) (x y : _) → continue.Post κs a r x → continue.Post κs a q y → r ≡ q
+one-continue κs a r q x y p e = p ∙ sym e
+
+pub one-emoji : (κs : _) (a : _) (r q : Answer) (x y : _) → emoji.Post κs a r x → emoji.Post κs a q y → r ≡ q
+one-emoji κs a r q x y p e = p ∙ sym e
+
+pub one-ident : (κs : _) (a : _) (r q : Answer) (x y : _) → ident.Post κs a r x → ident.Post κs a q y → r ≡ q
+one-ident κs a r q x y p e = p ∙ sym e
