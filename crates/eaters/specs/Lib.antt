@@ -1,0 +1,4 @@
+pub mod Eat
+pub mod Look
+pub mod Scan
+pub mod Find

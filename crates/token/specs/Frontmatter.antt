@@ -1,0 +1,77 @@
+-- Frontmatter (000's frontmatter), after its first dash.
+use Prim.Native.Nat.{ℕ, zero, suc, pred, _+_, _-_}
+use mathlib.Core.List.{List, [], _∷_}
+use mathlib.Core.Bool.{Bool, true, false, not}
+use lib.ListN.{length, getD, take, drop}
+use lib.Dec.{ltb, eqb}
+use Rattle.basics.specs.Choice.{pick, and, or}
+use Rattle.eaters.specs.Eat.{Got, Eater, give, nothing, eat, takeWhile, while, _>>=_, _>>_, texted, choose}
+use Rattle.eaters.specs.Look.{ifAt, ifTwo, ifEat}
+use Rattle.eaters.specs.Look.{begins}
+use Rattle.eaters.specs.Find.{Place, at, nowhere, further, find, orElse}
+use Rattle.classes.specs.Whitespace.{isHorizontalWhitespace}
+use Rattle.token.specs.declared.TokenKind.{TokenKind}
+use Rattle.token.specs.declared.TokenKind.the-variants as kind
+use Rattle.token.specs.Names.{is, 'newline', 'space', '!', '#', '-', 'dot', '/', '[', 'e', 's', 'u'}
+use Rattle.token.specs.Lists.{Lists, starting, going}
+
+-- how many characters are left on the line
+abbrev pub lineRest : List ℕ → ℕ
+lineRest cs = length (takeWhile (λ c. not (is 'newline' c)) cs)
+
+-- n dashes
+abbrev pub dashes : ℕ → List ℕ
+dashes zero = []
+dashes (suc n) = '-' ∷ dashes n
+
+-- where these characters are first found
+abbrev pub first : List ℕ → List ℕ → Place
+first l cs = find (begins l) cs
+
+-- THE LAST SEARCH: the first three dashes before which there are only blanks, counted from the start of their line, or from where the
+-- search began, or from the three dashes before them. `skip` characters belong to dashes that were passed; `blank`: only blanks so far.
+unfoldable pub lastSearch : (skip : ℕ) (blank : Bool) → List ℕ → Place
+lastSearch zero blank [] = nowhere
+lastSearch (suc k) blank [] = nowhere
+lastSearch (suc k) blank (c ∷ cs) = further (lastSearch k blank cs)
+lastSearch zero blank (c ∷ cs) =
+    pick (begins (dashes 3) (c ∷ cs))
+    (pick blank (at 0) (further (lastSearch 2 true cs)))
+    (further (lastSearch 0 (or (is 'newline' c) (and blank (isHorizontalWhitespace c))) cs))
+
+-- without a closing fence: a newline with three dashes, past the newline; else a newline before `use `, before `//!`, before `#![`; else the last search
+abbrev pub recovery : List ℕ → Place
+recovery cs =
+    orElse (further (first ('newline' ∷ dashes 3) cs))
+    (orElse (first ('newline' ∷ 'u' ∷ 's' ∷ 'e' ∷ 'space' ∷ []) cs)
+    (orElse (first ('newline' ∷ '/' ∷ '/' ∷ '!' ∷ []) cs)
+    (orElse (first ('newline' ∷ '#' ∷ '!' ∷ '[' ∷ []) cs)
+    (lastSearch 0 true cs))))
+
+-- to a place and past the rest of its line; everything, if there is no place
+abbrev pub lineAt : Place → List ℕ → ℕ
+lineAt (at k) cs = k + lineRest (drop k cs)
+lineAt nowhere cs = length cs
+
+-- a fence of n dashes closes at the first newline with n dashes; the rest of that line is eaten, the newline is not
+abbrev pub closed : (n : ℕ) → Place → List ℕ → ℕ
+closed n (at k) cs = lineAt (at (k + suc n)) cs
+closed n nowhere cs = lineAt (recovery cs) cs
+
+unfoldable pub body : (n : ℕ) → Eater (Unit {0})
+body n cs = record { took = closed n (first ('newline' ∷ dashes n) cs) cs; said = tt }
+
+-- the infostring: like an identifier, with - and . in it
+abbrev pub infostring : Lists → Eater (Unit {0})
+infostring L = ifEat (starting L) (while (λ c. or (going L c) (or (is '-' c) (is 'dot' c))) >> nothing) nothing
+
+-- blanks and the infostring stand on the fence's line; it is invalid if something else stands there
+abbrev pub frontmatter : Lists → (invalidBefore : Bool) → Eater TokenKind
+frontmatter L invalidBefore = do
+  more ← while (is '-')
+  while isHorizontalWhitespace
+  infostring L
+  while isHorizontalWhitespace
+  ifAt (is 'newline')
+      (body (suc (length more)) >> give (kind.Frontmatter invalidBefore false))
+      (body (suc (length more)) >> give (kind.Frontmatter invalidBefore true))

@@ -1,0 +1,49 @@
+-- Lifetimes and character literals (000's lifetime_or_char), after the quote.
+use Prim.Native.Nat.{ℕ, zero, suc, pred, _+_, _-_}
+use mathlib.Core.List.{List, [], _∷_}
+use mathlib.Core.Bool.{Bool, true, false, not}
+use lib.ListN.{length, getD}
+use lib.Dec.{ltb, eqb}
+use Rattle.basics.specs.Choice.{pick, and, or}
+use Rattle.eaters.specs.Eat.{Eater, give, nothing, eat, while, _>>=_, _>>_, texted, choose}
+use Rattle.eaters.specs.Look.{ifAt, ifTwo, ifEat}
+use Rattle.text.specs.Chars.{size}
+use Rattle.classes.specs.Identifiers.{digit}
+use Rattle.token.specs.declared.LiteralKind.the-variants.{Char}
+use Rattle.token.specs.declared.TokenKind.{TokenKind}
+use Rattle.token.specs.declared.TokenKind.the-variants.{UnknownPrefixLifetime, RawLifetime, Literal, Lifetime}
+use Rattle.token.specs.Names.{is, '#', 'single', 'r'}
+use Rattle.token.specs.Lists.{Lists, starting, going}
+use Rattle.token.specs.Literals.{literal}
+use Rattle.token.specs.Quotes.{singleQuoted}
+
+-- a character literal
+abbrev pub character : Lists → Eater TokenKind
+character L = literal L 1 (singleQuoted Char)
+
+-- the rest of a name of which `before` bytes are taken, the quote with them: a quote after it makes it a character literal, without a suffix
+abbrev pub lifetimeRest : Lists → (numbered : Bool) (before : ℕ) → Eater TokenKind
+lifetimeRest L numbered before = do
+  t ← while (going L)
+  ifEat (is 'single') (give (Literal (Char true) (before + size t + 1)))
+      (choose numbered (give (Lifetime true))
+      (ifAt (is '#') (give UnknownPrefixLifetime) (give (Lifetime false))))
+
+-- a name, from its first character on
+abbrev pub lifetime : Lists → (numbered : Bool) → Eater TokenKind
+lifetime L numbered = do
+  r ← texted (eat 1)
+  lifetimeRest L numbered (1 + size (r .text))
+
+-- a digit or the start of an identifier may begin a lifetime
+abbrev pub naming : Lists → ℕ → Bool
+naming L c = or (starting L c) (digit c)
+
+abbrev pub lifetimeOrChar : Lists → Eater TokenKind
+lifetimeOrChar L =
+    ifTwo (naming L) (is 'single') (character L)
+    (ifEat (is 'r')
+    (ifTwo (is '#') (starting L) (eat 2 >> while (going L) >> give RawLifetime) (lifetimeRest L false 2))
+    (ifAt digit (lifetime L true)
+    (ifAt (starting L) (lifetime L false)
+    (character L))))

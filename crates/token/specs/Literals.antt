@@ -1,0 +1,30 @@
+-- Literals and their suffixes (000's eat_identifier, eat_literal_suffix).
+use Prim.Native.Nat.{ℕ, zero, suc, pred, _+_, _-_}
+use mathlib.Core.List.{List, [], _∷_}
+use mathlib.Core.Bool.{Bool, true, false, not}
+use lib.ListN.{length, getD}
+use lib.Dec.{ltb, eqb}
+use Rattle.basics.specs.Choice.{pick, and, or}
+use Rattle.eaters.specs.Eat.{Eater, give, nothing, eat, while, _>>=_, _>>_, texted, choose}
+use Rattle.eaters.specs.Look.{ifAt, ifTwo, ifEat}
+use Rattle.text.specs.Chars.{size}
+use Rattle.token.specs.declared.LiteralKind.{LiteralKind}
+use Rattle.token.specs.declared.TokenKind.{TokenKind}
+use Rattle.token.specs.declared.TokenKind.the-variants.{Literal}
+use Rattle.token.specs.Lists.{Lists, starting, going}
+
+-- an identifier, if there is one
+abbrev pub identifier : Lists → Eater (Unit {0})
+identifier L = ifEat (starting L) (while (going L) >> nothing) nothing
+
+-- a literal without its suffix: its kind, and whether a suffix is read after it
+pub record Body : Type 0 where
+  pub kind : LiteralKind
+  pub suffixed : Bool
+
+-- a literal of which `before` bytes are taken already: its suffix starts where its body ends
+abbrev pub literal : Lists → (before : ℕ) → Eater Body → Eater TokenKind
+literal L before body = do
+  r ← texted body
+  choose (r .said .suffixed) (identifier L) nothing
+  give (Literal (r .said .kind) (before + size (r .text)))

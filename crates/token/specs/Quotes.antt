@@ -1,0 +1,41 @@
+-- Quoted literals (000's double_quoted_string and single_quoted_string), after the opening quote.
+use Prim.Native.Nat.{ℕ, zero, suc, pred, _+_, _-_}
+use mathlib.Core.List.{List, [], _∷_}
+use mathlib.Core.Bool.{Bool, true, false, not}
+use lib.ListN.{length, getD}
+use lib.Dec.{ltb, eqb}
+use Rattle.basics.specs.Choice.{pick, and, or}
+use Rattle.eaters.specs.Eat.{Eater, give, nothing, eat, while, _>>=_, _>>_, texted, choose}
+use Rattle.eaters.specs.Look.{ifAt, ifTwo, ifEat}
+use Rattle.eaters.specs.Scan.{Turn, on, off, scan}
+use Rattle.token.specs.declared.LiteralKind.{LiteralKind}
+use Rattle.token.specs.Names.{is, 'newline', 'double', 'single', '/', '\'}
+use Rattle.token.specs.Literals.{Body}
+
+-- a body that ends well or not; a suffix is read only after one that does
+abbrev pub quoted : (Bool → LiteralKind) → Bool → Body
+quoted kind terminated = record { kind = kind terminated; suffixed = terminated }
+
+-- a quote ends it; a backslash takes a backslash or a quote with it
+abbrev pub doubleTurn : (depth c next : ℕ) → Turn
+doubleTurn d c e = pick (is 'double' c) (on 0 0) (pick (and (is '\' c) (or (is '\' e) (is 'double' e))) (on 1 d) (on 0 d))
+
+abbrev pub doubleQuoted : (Bool → LiteralKind) → Eater Body
+doubleQuoted kind = do
+  terminated ← scan doubleTurn 0 1
+  give (quoted kind terminated)
+
+-- a quote ends it well; / and a newline that no quote follows break it off; a backslash takes two characters
+abbrev pub singleTurn : (depth c next : ℕ) → Turn
+singleTurn d c e =
+    pick (is 'single' c) (on 0 0)
+    (pick (is '/' c) off
+    (pick (and (is 'newline' c) (not (is 'single' e))) off
+    (pick (is '\' c) (on 1 d)
+    (on 0 d))))
+
+-- if the second character is a quote and the first is no backslash: those two; else the scan
+abbrev pub singleQuoted : (Bool → LiteralKind) → Eater Body
+singleQuoted kind = do
+  terminated ← ifTwo (λ c. not (is '\' c)) (is 'single') (eat 2 >> give true) (scan singleTurn 0 1)
+  give (quoted kind terminated)

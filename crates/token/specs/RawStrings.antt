@@ -1,0 +1,34 @@
+-- Raw strings (000's raw_double_quoted_string), after the r.
+use Prim.Native.Nat.{ℕ, zero, suc, pred, _+_, _-_}
+use mathlib.Core.List.{List, [], _∷_}
+use mathlib.Core.Bool.{Bool, true, false, not}
+use lib.ListN.{length, getD}
+use lib.Dec.{ltb, eqb}
+use Rattle.basics.specs.Choice.{pick, and, or}
+use Rattle.eaters.specs.Eat.{Eater, give, nothing, eat, while, _>>=_, _>>_, texted, choose}
+use Rattle.eaters.specs.Look.{ifAt, ifTwo, ifEat}
+use Rattle.eaters.specs.Eat.{eatAny}
+use Rattle.eaters.specs.Scan.{firstWith}
+use Rattle.token.specs.declared.HashCount.{HashCount}
+use Rattle.token.specs.declared.HashCount.the-variants.{Of, NoCount}
+use Rattle.token.specs.declared.LiteralKind.{LiteralKind}
+use Rattle.token.specs.Names.{is, '#', 'double'}
+use Rattle.token.specs.Literals.{Body}
+
+-- with a count of hashes, or without one: then no suffix is read
+abbrev pub counted : (HashCount → LiteralKind) → ℕ → Body
+counted kind n = record { kind = kind (Of n); suffixed = true }
+
+abbrev pub uncounted : (HashCount → LiteralKind) → Body
+uncounted kind = record { kind = kind NoCount; suffixed = false }
+
+-- n hashes and a quote; the first quote with n hashes after it closes; more than 255 hashes have no count.
+-- Any other character after the hashes is taken, and there is no count.
+abbrev pub rawString : (HashCount → LiteralKind) → Eater Body
+rawString kind = do
+  hashes ← while (is '#')
+  ifEat (is 'double')
+      (do
+        terminated ← firstWith 'double' '#' (length hashes)
+        give (pick (and terminated (ltb (length hashes) 256)) (counted kind (length hashes)) (uncounted kind)))
+      (eatAny >> give (uncounted kind))

@@ -1,0 +1,40 @@
+-- The tokens of a text, without Eof, and their records: kind, length and start in bytes.
+use Prim.Native.Nat.{ℕ, zero, suc, pred, _+_, _-_}
+use mathlib.Core.List.{List, [], _∷_}
+use mathlib.Core.Bool.{Bool, true, false, not}
+use lib.ListN.{length, getD, take, drop}
+use lib.Dec.{ltb, eqb}
+use Rattle.basics.specs.Choice.{pick, and, or}
+use Rattle.eaters.specs.Eat.{Got}
+use Rattle.text.specs.Chars.{chars, size}
+use Rattle.token.specs.declared.TokenKind.{TokenKind}
+use Rattle.token.specs.declared.Token as token
+use Rattle.token.specs.Lists.{Lists}
+use Rattle.token.specs.Advance.{Told, advance}
+
+-- a token with its characters
+pub record Piece : Type 0 where
+  pub kind : TokenKind
+  pub text : List ℕ
+
+-- the tokens after the next `skip` characters
+unfoldable pub tokensAfter : Lists → (on : Bool) (skip : ℕ) → List ℕ → List Piece
+tokensAfter L on zero [] = []
+tokensAfter L on (suc k) [] = []
+tokensAfter L on (suc k) (c ∷ cs) = tokensAfter L on k cs
+tokensAfter L on zero (c ∷ cs) =
+    let r = advance L on (c ∷ cs) in
+    record { kind = r .said .kind; text = take (r .took) (c ∷ cs) } ∷ tokensAfter L (r .said .on) (pred (r .took)) cs
+
+-- THE TOKENS of characters
+abbrev pub tokens : Lists → (on : Bool) → List ℕ → List Piece
+tokens L on cs = tokensAfter L on 0 cs
+
+-- tokens in their places, the first of them at `start`
+abbrev pub placed : (start : ℕ) → List Piece → List token.Token
+placed start [] = []
+placed start (t ∷ ts) = record { kind = t .kind; len = size (t .text); start = start } ∷ placed (start + size (t .text)) ts
+
+-- THE RECORDS of a text's bytes
+abbrev pub records : Lists → (on : Bool) → List ℕ → List token.Token
+records L on s = placed 0 (tokens L on (chars s))

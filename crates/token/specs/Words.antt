@@ -1,0 +1,26 @@
+-- Identifiers (000's ident_or_unknown_prefix and invalid_ident), after their first character.
+use Prim.Native.Nat.{ℕ, zero, suc, pred, _+_, _-_}
+use mathlib.Core.List.{List, [], _∷_}
+use mathlib.Core.Bool.{Bool, true, false, not}
+use lib.ListN.{length, getD}
+use lib.Dec.{ltb, eqb}
+use Rattle.basics.specs.Choice.{pick, and, or}
+use Rattle.eaters.specs.Eat.{Eater, give, nothing, eat, while, _>>=_, _>>_, texted, choose}
+use Rattle.eaters.specs.Look.{ifAt, ifTwo, ifEat}
+use Rattle.token.specs.declared.TokenKind.{TokenKind}
+use Rattle.token.specs.declared.TokenKind.the-variants.{Ident, InvalidIdent, UnknownPrefix}
+use Rattle.token.specs.Names.{is, '#', 'double', 'single', 'joiner'}
+use Rattle.token.specs.Lists.{Lists, going, smiling}
+
+-- with emoji in it: what goes on in an identifier, emoji, and the zero width joiner
+abbrev pub invalidIdent : Lists → Eater TokenKind
+invalidIdent L = while (λ c. or (going L c) (or (smiling L c) (is 'joiner' c))) >> give InvalidIdent
+
+-- what makes an unknown prefix of the identifier before it
+abbrev pub prefixMark : ℕ → Bool
+prefixMark c = or (is '#' c) (or (is 'double' c) (is 'single' c))
+
+abbrev pub identOrUnknownPrefix : Lists → Eater TokenKind
+identOrUnknownPrefix L = do
+  while (going L)
+  ifAt prefixMark (give UnknownPrefix) (ifAt (smiling L) (invalidIdent L) (give Ident))
