@@ -39,14 +39,22 @@ lastSearch zero blank (c ∷ cs) =
     (pick blank (at 0) (further (lastSearch 2 true cs)))
     (further (lastSearch 0 (or (is 'newline' c) (and blank (isHorizontalWhitespace c))) cs))
 
--- without a closing fence: a newline with three dashes, past the newline; else a newline before `use `, before `//!`, before `#![`; else the last search
+-- the newlines that Rust may begin after: before `use `, before `//!`, before `#![`
+abbrev pub useLine : List ℕ
+useLine = 'newline' ∷ 'u' ∷ 's' ∷ 'e' ∷ 'space' ∷ []
+
+abbrev pub docLine : List ℕ
+docLine = 'newline' ∷ '/' ∷ '/' ∷ '!' ∷ []
+
+abbrev pub attributeLine : List ℕ
+attributeLine = 'newline' ∷ '#' ∷ '!' ∷ '[' ∷ []
+
+-- without a closing fence: past the first newline with three dashes; else the first newline before `use `, else before `//!`, else before `#![`,
+-- each searched through the whole rest; else the last search
 abbrev pub recovery : List ℕ → Place
 recovery cs =
     orElse (further (first ('newline' ∷ dashes 3) cs))
-    (orElse (first ('newline' ∷ 'u' ∷ 's' ∷ 'e' ∷ 'space' ∷ []) cs)
-    (orElse (first ('newline' ∷ '/' ∷ '/' ∷ '!' ∷ []) cs)
-    (orElse (first ('newline' ∷ '#' ∷ '!' ∷ '[' ∷ []) cs)
-    (lastSearch 0 true cs))))
+    (orElse (first useLine cs) (orElse (first docLine cs) (orElse (first attributeLine cs) (lastSearch 0 true cs))))
 
 -- to a place and past the rest of its line; everything, if there is no place
 abbrev pub lineAt : Place → List ℕ → ℕ
