@@ -19,7 +19,7 @@ use Rattle.token.specs.Lists.{Lists}
 use Rattle.token.specs.Kinds.{kindNumber}
 use Rattle.token.specs.Advance.{Told, stays, advance}
 use Rattle.token.specs.Tokens.{Piece, tokensAfter, tokens, placed, records}
-use Rattle.token.proofs.Fits.{fits-token}
+use Rattle.token.proofs.Takes.{fits-token}
 
 -- a token takes no more than there is, and, but for Eof, at least one character
 pub advance-room : (L : Lists) (on : Bool) (cs : List ℕ) → advance L on cs .took ≤ length cs
