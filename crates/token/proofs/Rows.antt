@@ -79,7 +79,7 @@ pub marked-hold : Hold marked
 unfolding byte two three four lead decoded charsAfter width inPairs isWhitespace isHorizontalWhitespace letter idStart idContinue emojiChar give eat eatAny while whileMost _>>=_ texted choose ifAt ifTwo ifBegins scan firstWith find lastSearch body advance tokensAfter
 marked-hold = (refl, (refl, (refl, (refl, (refl, (refl, (refl, (refl, (refl, (refl, (refl, (refl, tt))))))))))))
 
--- the other rows, and texts with a NUL, which is a character like others
+-- the other rows; texts with a NUL, which is a character like others; block comments in which no star or slash is used twice; a suffix after a wide character
 abbrev pub others : List Line
 others =
     line (Literal (Int Hexadecimal false) 5) 5 (48 ∷ 120 ∷ 49 ∷ 101 ∷ 51 ∷ [])
@@ -92,12 +92,13 @@ others =
     ∷ line (Literal (Str true) 3) 3 (34 ∷ 0 ∷ 34 ∷ [])
     ∷ line (BlockComment Plain true) 5 (47 ∷ 42 ∷ 0 ∷ 42 ∷ 47 ∷ [])
     ∷ line (BlockComment Plain false) 3 (47 ∷ 42 ∷ 47 ∷ [])
+    ∷ line (BlockComment Plain false) 7 (47 ∷ 42 ∷ 47 ∷ 42 ∷ 47 ∷ 42 ∷ 47 ∷ [])
     ∷ line (Literal (Char true) 4) 5 (39 ∷ 195 ∷ 169 ∷ 39 ∷ 120 ∷ [])
     ∷ []
 
 pub others-hold : Hold others
 unfolding byte two three four lead decoded charsAfter width inPairs isWhitespace isHorizontalWhitespace letter idStart idContinue emojiChar give eat eatAny while whileMost _>>=_ texted choose ifAt ifTwo ifBegins scan firstWith find lastSearch body advance tokensAfter
-others-hold = (refl, (refl, (refl, (refl, (refl, (refl, (refl, (refl, (refl, (refl, (refl, tt)))))))))))
+others-hold = (refl, (refl, (refl, (refl, (refl, (refl, (refl, (refl, (refl, (refl, (refl, (refl, tt))))))))))))
 
 -- the raw check: r##"é"# with prefix 1 gives NoTerminator, expected 2, found 1, offset 7
 pub raw-row : rawCheck 1 (chars (drop 1 (114 ∷ 35 ∷ 35 ∷ 34 ∷ 195 ∷ 169 ∷ 34 ∷ 35 ∷ []))) ≡ Bad (NoTerminator 2 1 (At 7))
