@@ -1,0 +1,4 @@
+pub mod Steps
+pub mod Moves
+pub mod Runs
+pub mod Loops

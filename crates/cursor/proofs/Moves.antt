@@ -1,0 +1,83 @@
+-- Moves of a cursor, in the facts that the code's checks hand over.
+use Prim.Native.Nat.{ℕ, zero, suc, _+_, _-_, _≤_, _<_}
+use mathlib.Core.Path.{_≡_, refl, sym, ap, subst, _∙_}
+use mathlib.Core.List.{List, [], _∷_}
+use mathlib.Core.Bool.{Bool, true, false}
+use lib.ListN.{length, getD, drop, length-drop}
+use lib.Seq.{getD-drop, drop-drop}
+use native.Mathlib.Omega.{arith}
+use Rattle.cursor.specs.declared.Cursor.{Cursor}
+use Rattle.cursor.specs.declared.Step.{Step}
+use Rattle.cursor.specs.declared.Step.the-variants.{Got, Over}
+use Rattle.cursor.specs.Cursors.{rest, isOver, Here, Seen, char, end}
+use Rattle.cursor.specs.Moved.{Moved, start, over, left-of, onward, arrive}
+
+-- a peek whose case is known
+here : {s : List ℕ} {c : Cursor} {x : ℕ} {d : Cursor} → Seen s c (Got x d) → Here s c x d
+here (char h) = h
+
+gone : {s : List ℕ} {c : Cursor} → Seen s c Over → rest s c ≡ []
+gone (end e) = e
+
+pub char-at : {s : List ℕ} {c d : Cursor} {r : Step} {x : ℕ} → r ≡ Got x d → Seen s c r → Here s c x d
+char-at {s} {c} e h = here (subst (λ (p : Step). Seen s c p) e h)
+
+pub end-at : {s : List ℕ} {c : Cursor} {r : Step} → r ≡ Over → Seen s c r → rest s c ≡ []
+end-at {s} {c} e h = gone (subst (λ (p : Step). Seen s c p) e h)
+
+-- the peeks, and the move past one character
+module _ {s : List ℕ} {b : Cursor} {r : Step} where
+  pub first-there : {x : ℕ} {d : Cursor} → r ≡ Got x d → Seen s b r → x ≡ getD (rest s b) 0 0
+  first-there e h = rw (char-at e h .chars)
+
+  pub first-gone : r ≡ Over → Seen s b r → 0 ≡ getD (rest s b) 0 0
+  first-gone e h = rw (end-at e h)
+
+  pub bump-there : {x : ℕ} {d : Cursor} → r ≡ Got x d → Seen s b r → Moved s b d (drop 1 (rest s b))
+  bump-there e h = arrive (over (char-at e h)) (rw (char-at e h .chars))
+
+  pub bump-gone : r ≡ Over → Seen s b r → Moved s b b (drop 1 (rest s b))
+  bump-gone e h = arrive (start s b) (rw (end-at e h))
+
+  pub eof-there : {x : ℕ} {d : Cursor} → r ≡ Got x d → Seen s b r → false ≡ isOver (rest s b)
+  eof-there e h = rw (char-at e h .chars)
+
+  pub eof-gone : r ≡ Over → Seen s b r → true ≡ isOver (rest s b)
+  eof-gone e h = rw (end-at e h)
+
+module _ (s : List ℕ) {a b : Cursor} {x : ℕ} (m : Moved s a b (drop 1 (rest s a))) where
+  next-is : (k : ℕ) → x ≡ getD (rest s b) k 0 → x ≡ getD (rest s a) (1 + k) 0
+  next-is k e = e ∙ ap (λ (l : List ℕ). getD l k 0) (left-of m) ∙ getD-drop 1 (rest s a) k 0
+
+  pub second-is : x ≡ getD (rest s b) 0 0 → x ≡ getD (rest s a) 1 0
+  second-is = next-is 0
+
+  pub third-is : x ≡ getD (rest s b) 1 0 → x ≡ getD (rest s a) 2 0
+  third-is = next-is 1
+
+-- a first character that is no 0 is there
+pub front : (cs : List ℕ) {x : ℕ} → x ≡ getD cs 0 0 → 0 < x → cs ≡ x ∷ drop 1 cs
+front [] e h = absurd (omega arith)
+front (y ∷ cs) e h = rw e
+
+-- a turn that looks, and one that looks and bumps, leave fewer characters
+module _ {s : List ℕ} {b d : Cursor} {x : ℕ} {r : Step} (e : r ≡ Got x d) (h : Seen s b r) where
+  pub fewer-1 : length (rest s d) < length (rest s b)
+  fewer-1 = omega (arith, ap length (char-at e h .chars))
+
+  pub fewer-2 : {n : Cursor} → Moved s d n (drop 1 (rest s d)) → length (rest s n) < length (rest s b)
+  fewer-2 m = omega (arith, ap length (char-at e h .chars), ap length (left-of m), length-drop 1 (rest s d))
+
+  pub over-in : {a : Cursor} {cs : List ℕ} → Moved s a b cs → Moved s a d (rest s d)
+  over-in m = onward m (over (char-at e h))
+
+-- a turn that bumps over a known character
+module _ {s : List ℕ} {b d : Cursor} {x : ℕ} (e : x ≡ getD (rest s b) 0 0) (h : 0 < x) (m : Moved s b d (drop 1 (rest s b))) where
+  pub bumped : rest s b ≡ x ∷ rest s d
+  bumped = front (rest s b) e h ∙ ap (λ (l : List ℕ). x ∷ l) (sym (left-of m))
+
+  pub fewer : length (rest s d) < length (rest s b)
+  fewer = omega (arith, ap length bumped)
+
+pub settled : {s : List ℕ} {a b : Cursor} {cs : List ℕ} → Moved s a b cs → Moved s a b (rest s b)
+settled m = arrive m (sym (left-of m))

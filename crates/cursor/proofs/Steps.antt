@@ -1,0 +1,34 @@
+-- The laws of one step of a cursor. These alone look into `rest` and `stepAt`.
+use Prim.Native.Nat.{ℕ, _+_, _≤_, _^_, _<_}
+use mathlib.Core.Path.{_≡_, refl, sym, ap, subst, _∙_}
+use mathlib.Core.List.{List, [], _∷_}
+use lib.ListN.{length, drop}
+use native.Mathlib.Omega.{arith}
+use Rattle.text.specs.declared.Decoded.{Decoded}
+use Rattle.text.specs.declared.Decoded.the-variants.{Char, End, Ill}
+use Rattle.text.specs.Utf8.{decoded}
+use Rattle.text.proofs.Coding.{Fact}
+use Rattle.text.proofs.Texts.{told}
+use Rattle.text.proofs.Places.{char-chars, char-room, end-chars, ill-chars}
+use Rattle.cursor.specs.declared.Cursor.{Cursor}
+use Rattle.cursor.specs.declared.Step.{Step}
+use Rattle.cursor.specs.declared.Step.the-variants.{Got, Over}
+use Rattle.cursor.specs.Cursors.{rest, rest-is, onto, stepAt, Here, Seen, char, end}
+
+module _ (s : List ℕ) (c : Cursor) {d : Decoded} (e : d ≡ decoded (drop (c .at) s)) where
+  pub seen-char : {x w : ℕ} → d ≡ Char x w → Seen s c (Got x (record { at = c .at + w }))
+  unfolding stepAt
+  seen-char {x} {w} k =
+      let f : Fact (drop (c .at) s) x w = told (drop (c .at) s) (sym e ∙ k) in
+      char (record {
+        chars = rest-is s c ∙ char-chars s (c .at) e k ∙ ap (λ (l : List ℕ). x ∷ l) (sym (rest-is s (record { at = c .at + w })));
+        next = ap (onto (c .at)) (sym e ∙ k);
+        scalar = f .scalar;
+        bytes = ap (λ (n : ℕ). c .at + n) (sym (f .wide));
+      })
+
+  pub seen-end : d ≡ End → Seen s c Over
+  seen-end k = end (rest-is s c ∙ end-chars s (c .at) e k)
+
+  pub seen-ill : d ≡ Ill → Seen s c Over
+  seen-ill k = end (rest-is s c ∙ ill-chars s (c .at) e k)

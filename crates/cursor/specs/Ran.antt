@@ -1,0 +1,18 @@
+-- What a scan of the code did, by an eater of the book.
+use Prim.Native.Nat.{ℕ}
+use mathlib.Core.Path.{_≡_}
+use mathlib.Core.List.{List}
+use lib.ListN.{drop}
+use Rattle.eaters.specs.Eat.{Got, Eater}
+use Rattle.cursor.specs.declared.Cursor.{Cursor}
+use Rattle.cursor.specs.Cursors.{rest}
+use Rattle.cursor.specs.Moved.{Moved}
+
+-- what an eater leaves
+abbrev pub left : {A : Type 0} → Eater A → List ℕ → List ℕ
+left m cs = drop (m cs .took) cs
+
+-- from c to d, saying x, as m does over the characters at c
+pub record Ran {A : Type 0} (m : Eater A) (s : List ℕ) (c d : Cursor) (x : A) : Type 0 where
+  pub moved : Moved s c d (left m (rest s c))
+  pub said : x ≡ m (rest s c) .said

@@ -1,0 +1,94 @@
+// The cursor: a place in a text, as a value that each move hands back. Its place is shut in this crate: a scan holds no width and no sum.
+//
+// Nothing is asked of the text or of the place: where no character can be read, there is the end.
+ghost use mathlib.Core.Path.{_≡_};
+ghost use lib.ListN.{getD, drop};
+ghost use mathlib.Core.List.{[]};
+ghost use Rattle.cursor.specs.Cursors.{rest, Seen, isOver};
+ghost use Rattle.cursor.specs.Moved.{Moved};
+use text::CodePoint;
+use text::Decoded;
+
+pub struct Cursor {
+    at: usize,
+}
+
+// What a peek gives: a character and the cursor past it, or the end. So a NUL is told from the end.
+pub enum Step {
+    Got(CodePoint, Cursor),
+    Over,
+}
+
+impl Cursor {
+    // The cursor at a place of a text.
+    pub fn new(place: usize) -> Cursor
+        ensures { λ r. ⌜ r .at ≡ place ⌝ }
+    {
+        Cursor { at: place }
+    }
+
+    // Its place.
+    pub fn place(self) -> usize
+        ensures { λ r. ⌜ r ≡ self .at ⌝ }
+    {
+        self.at
+    }
+
+    pub fn peek(self, text: &[u8]) -> Step
+        ensures { λ r. ⌜ Seen (now (text .entry)) self r ⌝ }
+    {
+        let at = self.at;
+        match text::decode(text, at) {
+            Decoded::Char(c, w) => {
+                let next = Cursor { at: at + w };
+                Step::Got(c, next)
+            }
+            Decoded::End => Step::Over,
+            Decoded::Ill => Step::Over,
+        }
+    }
+
+    // The next character; 0 where there is none.
+    pub fn first(self, text: &[u8]) -> CodePoint
+        ensures { λ r. ⌜ r ≡ getD (rest (now (text .entry)) self) 0 0 ⌝ }
+    {
+        match self.peek(text) {
+            Step::Got(c, _) => c,
+            Step::Over => 0,
+        }
+    }
+
+    // Past the next character, if there is one.
+    pub fn bump(self, text: &[u8]) -> Cursor
+        ensures { λ r. ⌜ Moved (now (text .entry)) self r (drop 1 (rest (now (text .entry)) self)) ⌝ }
+    {
+        match self.peek(text) {
+            Step::Got(_, next) => next,
+            Step::Over => self,
+        }
+    }
+
+    // The second next character; 0 where there is none.
+    pub fn second(self, text: &[u8]) -> CodePoint
+        ensures { λ r. ⌜ r ≡ getD (rest (now (text .entry)) self) 1 0 ⌝ }
+    {
+        self.bump(text).first(text)
+    }
+
+    // The third next character; 0 where there is none.
+    pub fn third(self, text: &[u8]) -> CodePoint
+        ensures { λ r. ⌜ r ≡ getD (rest (now (text .entry)) self) 2 0 ⌝ }
+    {
+        self.bump(text).second(text)
+    }
+
+    // Whether nothing is left.
+    pub fn is_eof(self, text: &[u8]) -> bool
+        ensures { λ r. ⌜ r ≡ isOver (rest (now (text .entry)) self) ⌝ }
+    {
+        match self.peek(text) {
+            Step::Got(_, _) => false,
+            Step::Over => true,
+        }
+    }
+}
