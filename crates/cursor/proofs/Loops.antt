@@ -14,7 +14,7 @@ use Rattle.cursor.specs.declared.Step.the-variants.{Got as Char, Over}
 use Rattle.cursor.specs.Cursors.{rest, Here, Seen}
 use Rattle.cursor.specs.Moved.{Moved, start, over, left-of, onward, arrive}
 use Rattle.cursor.specs.Ran.{left, Ran}
-use Rattle.cursor.proofs.Moves.{char-at, end-at}
+use Rattle.cursor.proofs.Moves.{char-at, end-at, bumped}
 
 -- A RUN OF CHARACTERS OF p
 pub record Eaten (p : ℕ → Bool) (s : List ℕ) (a b : Cursor) : Type 0 where
@@ -111,14 +111,14 @@ module _ (t : ℕ → ℕ → ℕ → Turn) {s : List ℕ} {a b : Cursor} {d : �
         }
 
     -- two characters are taken, and the second is there
-    pub inside-two : {f : ℕ} {m : Cursor} (e : ℕ) → t (suc d) c f ≡ on 1 e → Here s n f m → Inside t s a m e
-    inside-two {f} {m} e q k =
-        let w : t (suc d) c (getD (rest s n) 0 0) ≡ on 1 e = ap (λ (l : List ℕ). t (suc d) c (getD l 0 0)) (k .chars) ∙ q in
-        let z : scan t 0 (suc d) (rest s b) ≡ after (scan t 1 e (rest s n)) = ap (scan t 0 (suc d)) (h .chars) ∙ scan-turn t d c 1 e (rest s n) w in
-        let y : scan t 1 e (rest s n) .said ≡ scan t 0 e (rest s m) .said = ap (λ (l : List ℕ). scan t 1 e l .said) (k .chars) ∙ skip-said t e f (rest s m) in
-        let x : left (scan t 1 e) (rest s n) ≡ left (scan t 0 e) (rest s m) = skip-left t e (rest s n) ∙ ap (λ (l : List ℕ). left (scan t 0 e) (drop 1 l)) (k .chars) in
+    pub inside-past : {f : ℕ} {m : Cursor} (e : ℕ) → t (suc d) c (getD (rest s n) 0 0) ≡ on 1 e → f ≡ getD (rest s n) 0 0 → 0 < f → Moved s n m (drop 1 (rest s n)) → Inside t s a m e
+    inside-past {f} {m} e q g o k =
+        let v : rest s n ≡ f ∷ rest s m = bumped g o k in
+        let z : scan t 0 (suc d) (rest s b) ≡ after (scan t 1 e (rest s n)) = ap (scan t 0 (suc d)) (h .chars) ∙ scan-turn t d c 1 e (rest s n) q in
+        let y : scan t 1 e (rest s n) .said ≡ scan t 0 e (rest s m) .said = ap (λ (l : List ℕ). scan t 1 e l .said) v ∙ skip-said t e f (rest s m) in
+        let x : left (scan t 1 e) (rest s n) ≡ left (scan t 0 e) (rest s m) = skip-left t e (rest s n) ∙ ap (λ (l : List ℕ). left (scan t 0 e) (drop 1 l)) v in
         record {
-          moved = onward (onward (i .moved) (over h)) (over k);
+          moved = arrive (onward (onward (i .moved) (over h)) k) (sym (left-of k));
           same = sym x ∙ (rw (z, h .chars) at (i .same));
           word = sym y ∙ (rw z at (i .word));
         }

@@ -27,6 +27,10 @@ pub record Same {A : Type 0} (d e : Cursor) (x y : A) : Type 0 where
 pub one-answer : {A : Type 0} {m : Eater A} {s : List ℕ} {c d e : Cursor} {x y : A} → Ran m s c d x → Ran m s c e y → Same d e x y
 one-answer p q = record { cursor = one-cursor (p .moved) (q .moved); word = p .said ∙ sym (q .said) }
 
+-- the same run, said in other words
+pub ran-word : {A : Type 0} {m : Eater A} {s : List ℕ} {a b : Cursor} {x y : A} → Ran m s a b x → y ≡ x → Ran m s a b y
+ran-word r e = record { moved = r .moved; said = e ∙ r .said }
+
 -- WORDS OF THE VOCABULARY
 
 pub ran-give : {A : Type 0} (x : A) (s : List ℕ) (c : Cursor) → Ran (give x) s c c x

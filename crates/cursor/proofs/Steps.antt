@@ -2,13 +2,14 @@
 use Prim.Native.Nat.{ℕ, _+_, _≤_, _^_, _<_}
 use mathlib.Core.Path.{_≡_, refl, sym, ap, subst, _∙_}
 use mathlib.Core.List.{List, [], _∷_}
-use lib.ListN.{length, drop}
+use lib.ListN.{length, drop, length-drop}
 use native.Mathlib.Omega.{arith}
 use Rattle.text.specs.declared.Decoded.{Decoded}
 use Rattle.text.specs.declared.Decoded.the-variants.{Char, End, Ill}
 use Rattle.text.specs.Utf8.{decoded}
+use Rattle.text.specs.Chars.{chars}
 use Rattle.text.proofs.Coding.{Fact}
-use Rattle.text.proofs.Texts.{told}
+use Rattle.text.proofs.Texts.{told, size-chars, few-chars}
 use Rattle.text.proofs.Places.{char-chars, char-room, end-chars, ill-chars}
 use Rattle.cursor.specs.declared.Cursor.{Cursor}
 use Rattle.cursor.specs.declared.Step.{Step}
@@ -32,3 +33,7 @@ module _ (s : List ℕ) (c : Cursor) {d : Decoded} (e : d ≡ decoded (drop (c .
 
   pub seen-ill : d ≡ Ill → Seen s c Over
   seen-ill k = end (rest-is s c ∙ ill-chars s (c .at) e k)
+
+-- a text has no more characters than bytes
+pub rest-short : (s : List ℕ) (c : Cursor) → length (rest s c) ≤ length s
+rest-short s c = rw (rest-is s c) (omega (arith, few-chars (chars (drop (c .at) s)), size-chars (drop (c .at) s), length-drop (c .at) s))

@@ -8,6 +8,7 @@ ghost use Rattle.cursor.specs.Cursors.{rest, Seen, isOver};
 ghost use Rattle.cursor.specs.Moved.{Moved};
 use text::CodePoint;
 use text::Decoded;
+use token::TokenKind;
 
 pub struct Cursor {
     at: usize,
@@ -17,6 +18,18 @@ pub struct Cursor {
 pub enum Step {
     Got(CodePoint, Cursor),
     Over,
+}
+
+// What a rule of the book gives: the kind of the token, and the cursor past it.
+pub struct Lexed {
+    pub kind: TokenKind,
+    pub next: Cursor,
+}
+
+// What a search for an end gives: the cursor past it, and whether it was found.
+pub struct Ended {
+    pub next: Cursor,
+    pub terminated: bool,
 }
 
 impl Cursor {

@@ -1,11 +1,13 @@
 -- The characters of a text: one at a time; how many bytes they take; and the round trip between texts and characters.
-use Prim.Native.Nat.{ℕ, zero, suc, _+_, _-_, _≤_, _<_, pred}
+use Prim.Native.Nat.{ℕ, zero, suc, _+_, _-_, _≤_, _<_, pred, zero-le}
 use mathlib.Core.Path.{_≡_, refl, sym, ap, subst, _∙_}
 use mathlib.Core.List.{List, [], _∷_, _++_, append-assoc, append-nil}
 use mathlib.Core.Bool.{Bool, true, false}
+use lib.Dec.{ltb}
 use lib.ListN.{length, drop, length-append, length-drop, drop-of-length-le}
 use lib.Seq.{drop-drop, drop-length, drop-append-seam}
 use native.Mathlib.Omega.{arith}
+use Rattle.basics.proofs.Choices.{by-pick}
 use Rattle.text.specs.declared.Decoded.{Decoded}
 use Rattle.text.specs.declared.Decoded.the-variants.{Char, End, Ill}
 use Rattle.text.specs.Utf8.{decoded}
@@ -78,6 +80,17 @@ length-encode (c ∷ cs) = rw (length-append (encodeOne c) (encode cs), length-e
 -- no character takes a byte that is not there
 pub size-chars : (s : List ℕ) → size (chars s) ≤ length s
 size-chars s = omega (arith, simp (length-append, length-encode) at (ap length (front s)))
+
+-- a character has at least one byte
+pub width-some : (c : ℕ) → 1 ≤ width c
+unfolding width
+width-some c =
+    by-pick (λ (n : ℕ). 1 ≤ n) (ltb c 0x80) _ _ (λ t. omega arith)
+    (λ t. by-pick (λ (n : ℕ). 1 ≤ n) (ltb c 0x800) _ _ (λ t. omega arith) (λ t. by-pick (λ (n : ℕ). 1 ≤ n) (ltb c 0x10000) _ _ (λ t. omega arith) (λ t. omega arith)))
+
+pub few-chars : (cs : List ℕ) → length cs ≤ size cs
+few-chars [] = zero-le
+few-chars (c ∷ cs) = omega (arith, few-chars cs, width-some c)
 
 -- encoding what was decoded gives the text back
 pub encode-chars : (s : List ℕ) → WellFormed s → encode (chars s) ≡ s

@@ -5,13 +5,12 @@ use mathlib.Core.List.{List, [], _∷_, _++_}
 use mathlib.Core.Logic.{_⊎_, inl, inr, ⊎-elim}
 use mathlib.Core.Bool.{Bool, true, false}
 use borrow.Author.Tests.{eqb-true, eq-eqb}
-use lib.Dec.{eqb, ltb}
 use lib.ListN.{length, take, drop, take-append-drop, length-drop, length-append}
 use native.Mathlib.Omega.{arith}
 use Rattle.basics.specs.Choice.{pick, and}
 use Rattle.basics.proofs.Choices.{by-pick, and-1, and-2}
-use Rattle.text.specs.Chars.{chars, width, size, WellFormed}
-use Rattle.text.proofs.Texts.{size-chars}
+use Rattle.text.specs.Chars.{chars, size, WellFormed}
+use Rattle.text.proofs.Texts.{size-chars, width-some, few-chars}
 use Rattle.eaters.specs.Eat.{Got}
 use Rattle.token.specs.declared.TokenKind.{TokenKind}
 use Rattle.token.specs.declared.Token as token
@@ -105,17 +104,6 @@ cover L = by-tokens L (λ (on : Bool) (cs : List ℕ). texts (tokens L on cs) �
 pub few-tokens : (L : Lists) (on : Bool) (cs : List ℕ) → length (tokens L on cs) ≤ length cs
 few-tokens L = by-tokens L (λ (on : Bool) (cs : List ℕ). length (tokens L on cs) ≤ length cs) (λ on. rw (tokens-none L on) zero-le)
     (λ on c cs ih. rw (tokens-step L on c cs) (omega (arith, ih, length-drop (advance L on (c ∷ cs) .took) (c ∷ cs), advance-some L on c cs)))
-
--- a character has at least one byte
-pub width-some : (c : ℕ) → 1 ≤ width c
-unfolding width
-width-some c =
-    by-pick (λ (n : ℕ). 1 ≤ n) (ltb c 0x80) _ _ (λ t. omega arith)
-    (λ t. by-pick (λ (n : ℕ). 1 ≤ n) (ltb c 0x800) _ _ (λ t. omega arith) (λ t. by-pick (λ (n : ℕ). 1 ≤ n) (ltb c 0x10000) _ _ (λ t. omega arith) (λ t. omega arith)))
-
-pub few-chars : (cs : List ℕ) → length cs ≤ size cs
-few-chars [] = zero-le
-few-chars (c ∷ cs) = omega (arith, few-chars cs, width-some c)
 
 size-append : (a b : List ℕ) → size (a ++ b) ≡ size a + size b
 size-append [] b = omega arith

@@ -18,10 +18,14 @@ use Rattle.token.specs.Names.{is, 'newline', '!', '*', '/'}
 abbrev pub lineDoc : (text : List ℕ) → DocStyle
 lineDoc t = pick (is '!' (getD t 0 0)) Inner (pick (and (is '/' (getD t 0 0)) (not (is '/' (getD t 1 0)))) Outer Plain)
 
+-- not the end of the line
+abbrev pub inLine : ℕ → Bool
+inLine c = not (is 'newline' c)
+
 -- up to the end of the line
 abbrev pub lineComment : Eater TokenKind
 lineComment = do
-  t ← while (λ c. not (is 'newline' c))
+  t ← while inLine
   give (LineComment (lineDoc t))
 
 -- /*! is inner; /** is outer, unless * or / follows

@@ -1,0 +1,3 @@
+mod Docs
+mod Blocks
+mod Rules
