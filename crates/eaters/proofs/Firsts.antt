@@ -9,7 +9,8 @@ use lib.ListN.{length, getD, take, drop, take-append-drop}
 use native.Mathlib.Omega.{arith}
 use native.Mathlib.Numerals.{add-one}
 use Rattle.basics.specs.Choice.{pick, and}
-use Rattle.eaters.specs.Eat.{Got}
+use Rattle.basics.specs.Tests.{all}
+use Rattle.eaters.specs.Eat.{Got, takeWhile}
 use Rattle.eaters.specs.Scan.{after, Turn, on, off, turned, scan, run, firstWith}
 use Rattle.eaters.specs.Find.{Place, at, nowhere, further, find}
 
@@ -135,3 +136,21 @@ went turn (c ∷ cs) (suc k) d = skipped (went turn cs k d)
 
 pub scan-way : (turn : ℕ → ℕ → ℕ → Turn) (k d : ℕ) (cs : List ℕ) → Went turn k d cs
 scan-way turn k d cs = record { way = went turn cs k d }
+
+-- THE LONGEST RUN: every character taken is of p, and the next one is not, or there is none
+pub while-all : (p : ℕ → Bool) (cs : List ℕ) → all p (takeWhile p cs) ≡ true
+while-all p [] = refl
+while-all p (c ∷ cs) = go (p c) refl (while-all p cs)
+  where
+    go : (t : Bool) → p c ≡ t → all p (takeWhile p cs) ≡ true → all p (pick t (c ∷ takeWhile p cs) []) ≡ true
+    go true e h = rw (e, h)
+    go false e h = refl
+
+pub while-next : (p : ℕ → Bool) (cs : List ℕ) → (drop (length (takeWhile p cs)) cs ≡ []) ⊎ (p (getD (drop (length (takeWhile p cs)) cs) 0 0) ≡ false)
+while-next p [] = inl refl
+while-next p (c ∷ cs) = go (p c) refl (while-next p cs)
+  where
+    go : (t : Bool) → p c ≡ t → (drop (length (takeWhile p cs)) cs ≡ []) ⊎ (p (getD (drop (length (takeWhile p cs)) cs) 0 0) ≡ false)
+        → (drop (length (pick t (c ∷ takeWhile p cs) [])) (c ∷ cs) ≡ []) ⊎ (p (getD (drop (length (pick t (c ∷ takeWhile p cs) [])) (c ∷ cs)) 0 0) ≡ false)
+    go true e h = h
+    go false e h = inr e
