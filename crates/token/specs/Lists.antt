@@ -10,6 +10,9 @@ pub record Lists : Type 0 where
   pub continues : List ℕ
   pub emoji : List ℕ
 
+abbrev pub lent : (starts continues emoji : List ℕ) → Lists
+lent a b c = record { starts = a; continues = b; emoji = c }
+
 -- c starts an identifier
 abbrev pub starting : Lists → ℕ → Bool
 starting L c = idStart (L .starts) c

@@ -13,8 +13,11 @@ use Rattle.token.specs.Names.{is, '#', 'double', 'single', 'joiner'}
 use Rattle.token.specs.Lists.{Lists, going, smiling}
 
 -- with emoji in it: what goes on in an identifier, emoji, and the zero width joiner
+abbrev pub inInvalid : Lists → ℕ → Bool
+inInvalid L c = or (going L c) (or (smiling L c) (is 'joiner' c))
+
 abbrev pub invalidIdent : Lists → Eater TokenKind
-invalidIdent L = while (λ c. or (going L c) (or (smiling L c) (is 'joiner' c))) >> give InvalidIdent
+invalidIdent L = while (inInvalid L) >> give InvalidIdent
 
 -- what makes an unknown prefix of the identifier before it
 abbrev pub prefixMark : ℕ → Bool

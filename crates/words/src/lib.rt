@@ -1,0 +1,150 @@
+// Identifiers, raw identifiers, forced keywords, prefixes and invalid identifiers, each proved equal to its rule in the book. Names are 000's.
+// A function that uses a lent list asks for one that was checked.
+ghost use mathlib.Core.Path.{_≡_};
+ghost use mathlib.Core.List.{[]};
+ghost use Rattle.lists.specs.Rules.{Good};
+ghost use Rattle.classes.specs.Identifiers.{idContinue};
+ghost use Rattle.eaters.specs.Eat.{while};
+ghost use Rattle.token.specs.Lists.{lent};
+ghost use Rattle.token.specs.Literals.{identifier};
+ghost use Rattle.token.specs.Words.{inInvalid, invalidIdent, prefixMark, identOrUnknownPrefix};
+ghost use Rattle.token.specs.Prefixed.{afterK};
+ghost use Rattle.cursor.specs.Cursors.{rest};
+ghost use Rattle.cursor.specs.Moved.{Moved};
+ghost use Rattle.cursor.specs.Ran.{left, Ran};
+use cursor::Cursor;
+use cursor::Lexed;
+use cursor::Step;
+use text::CodePoint;
+use token::TokenKind;
+
+// Past what goes on in an identifier.
+pub fn eat_continue(text: &[u8], from: Cursor, continues: &[u32]) -> Cursor
+    requires { ⌜ Good (now continues) ⌝ }
+    ensures { λ r. ⌜ Moved (now (text .entry)) from r (left (while (idContinue (now (continues .entry)))) (rest (now (text .entry)) from)) ⌝ }
+{
+    let mut cur = from;
+    loop {
+        match cur.peek(text) {
+            Step::Got(c, next) => {
+                if classes::id_continue(c, continues) {
+                    cur = next;
+                } else {
+                    return cur;
+                }
+            }
+            Step::Over => return cur,
+        }
+    }
+}
+
+// An identifier, if there is one.
+pub fn eat_identifier(text: &[u8], from: Cursor, starts: &[u32], continues: &[u32]) -> Cursor
+    requires { ⌜ Good (now starts) × Good (now continues) ⌝ }
+    ensures { λ r. ⌜ Ran (identifier (lent (now (starts .entry)) (now (continues .entry)) [])) (now (text .entry)) from r tt ⌝ }
+{
+    let c = from.first(text);
+    if classes::id_start(c, starts) {
+        return eat_continue(text, from.bump(text), continues);
+    }
+    from
+}
+
+// Whether c goes on in an invalid identifier.
+fn in_invalid(c: CodePoint, continues: &[u32], emoji: &[u32]) -> bool
+    requires { ⌜ Good (now continues) × Good (now emoji) ⌝ }
+    ensures { λ r. ⌜ r ≡ inInvalid (lent [] (now (continues .entry)) (now (emoji .entry))) c ⌝ }
+{
+    if classes::id_continue(c, continues) {
+        return true;
+    }
+    if classes::emoji_char(c, emoji) {
+        return true;
+    }
+    c == 0x200D
+}
+
+// Past what goes on in an invalid identifier.
+fn eat_invalid(text: &[u8], from: Cursor, continues: &[u32], emoji: &[u32]) -> Cursor
+    requires { ⌜ Good (now continues) × Good (now emoji) ⌝ }
+    ensures { λ r. ⌜ Moved (now (text .entry)) from r (left (while (inInvalid (lent [] (now (continues .entry)) (now (emoji .entry))))) (rest (now (text .entry)) from)) ⌝ }
+{
+    let mut cur = from;
+    loop {
+        match cur.peek(text) {
+            Step::Got(c, next) => {
+                if in_invalid(c, continues, emoji) {
+                    cur = next;
+                } else {
+                    return cur;
+                }
+            }
+            Step::Over => return cur,
+        }
+    }
+}
+
+// An invalid identifier, after its first character.
+pub fn invalid_ident(text: &[u8], from: Cursor, continues: &[u32], emoji: &[u32]) -> Lexed
+    requires { ⌜ Good (now continues) × Good (now emoji) ⌝ }
+    ensures { λ r. ⌜ Ran (invalidIdent (lent [] (now (continues .entry)) (now (emoji .entry)))) (now (text .entry)) from (r .next) (r .kind) ⌝ }
+{
+    Lexed {
+        kind: TokenKind::InvalidIdent,
+        next: eat_invalid(text, from, continues, emoji),
+    }
+}
+
+// Whether c makes an unknown prefix of the identifier before it.
+fn is_prefix_mark(c: CodePoint) -> bool
+    ensures { λ r. ⌜ r ≡ prefixMark c ⌝ }
+{
+    if c == 0x23 {
+        return true;
+    }
+    if c == 0x22 {
+        return true;
+    }
+    c == 0x27
+}
+
+// An identifier or an unknown prefix, after its first character.
+pub fn ident_or_unknown_prefix(text: &[u8], from: Cursor, continues: &[u32], emoji: &[u32]) -> Lexed
+    requires { ⌜ Good (now continues) × Good (now emoji) ⌝ }
+    ensures { λ r. ⌜ Ran (identOrUnknownPrefix (lent [] (now (continues .entry)) (now (emoji .entry)))) (now (text .entry)) from (r .next) (r .kind) ⌝ }
+{
+    let next = eat_continue(text, from, continues);
+    let c = next.first(text);
+    if is_prefix_mark(c) {
+        return Lexed {
+            kind: TokenKind::UnknownPrefix,
+            next,
+        };
+    }
+    if classes::emoji_char(c, emoji) {
+        return invalid_ident(text, next, continues, emoji);
+    }
+    Lexed {
+        kind: TokenKind::Ident,
+        next,
+    }
+}
+
+// What the letter k begins, after it: a forced keyword, or an identifier or an unknown prefix.
+pub fn after_k(text: &[u8], from: Cursor, starts: &[u32], continues: &[u32], emoji: &[u32]) -> Lexed
+    requires { ⌜ Good (now starts) × Good (now continues) × Good (now emoji) ⌝ }
+    ensures { λ r. ⌜ Ran (afterK (lent (now (starts .entry)) (now (continues .entry)) (now (emoji .entry)))) (now (text .entry)) from (r .next) (r .kind) ⌝ }
+{
+    let c = from.first(text);
+    if c != 0x23 {
+        return ident_or_unknown_prefix(text, from, continues, emoji);
+    }
+    let d = from.second(text);
+    if classes::id_start(d, starts) {
+        return Lexed {
+            kind: TokenKind::ForcedKeywordIdent,
+            next: eat_identifier(text, from.bump(text), starts, continues),
+        };
+    }
+    ident_or_unknown_prefix(text, from, continues, emoji)
+}
