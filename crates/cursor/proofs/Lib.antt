@@ -2,3 +2,4 @@ pub mod Steps
 pub mod Moves
 pub mod Runs
 pub mod Loops
+pub mod Bytes

@@ -107,3 +107,8 @@ pub ran-bytes : {A : Type 0} (m : Eater A) {s : List ℕ} {a b : Cursor} {x : A}
 ran-bytes m {s} {a} {b} r h =
     let p = passed (r .moved) in
     p .bytes ∙ ap (λ (l : List ℕ). a .at + size l) (sym (taken (m (rest s a) .took) (p .text) (rest s a) h (p .whole)))
+
+-- an eater that does here what another does
+pub ran-as : {A : Type 0} {m n : Eater A} {s : List ℕ} {a b : Cursor} {x : A} → m (rest s a) ≡ n (rest s a) → Ran n s a b x → Ran m s a b x
+ran-as {A} {m} {n} {s} {a} {b} {x} e r =
+    record { moved = subst (λ (g : Got A). Moved s a b (drop (g .took) (rest s a))) (sym e) (r .moved); said = r .said ∙ ap (λ (g : Got A). g .said) (sym e) }

@@ -1,10 +1,14 @@
 -- What a scan of the code did, by an eater of the book.
-use Prim.Native.Nat.{ℕ}
+use Prim.Native.Nat.{ℕ, _+_, _-_}
 use mathlib.Core.Path.{_≡_}
 use mathlib.Core.List.{List}
 use lib.ListN.{drop}
 use Rattle.eaters.specs.Eat.{Got, Eater}
+use Rattle.token.specs.declared.TokenKind.{TokenKind}
+use Rattle.token.specs.declared.TokenKind.the-variants as kind
 use Rattle.cursor.specs.declared.Cursor.{Cursor}
+use Rattle.cursor.specs.declared.Kinded.{Kinded}
+use Rattle.cursor.specs.declared.Kinded.the-variants.{Plain, Literal}
 use Rattle.cursor.specs.Cursors.{rest}
 use Rattle.cursor.specs.Moved.{Moved}
 
@@ -16,3 +20,8 @@ left m cs = drop (m cs .took) cs
 pub record Ran {A : Type 0} (m : Eater A) (s : List ℕ) (c d : Cursor) (x : A) : Type 0 where
   pub moved : Moved s c d (left m (rest s c))
   pub said : x ≡ m (rest s c) .said
+
+-- the kind of a token of which `before` bytes are taken at c: its suffix starts so many bytes on
+abbrev pub kindFrom : (before : ℕ) → Cursor → Kinded → TokenKind
+kindFrom before c (Plain k) = k
+kindFrom before c (Literal k d) = kind.Literal k (before + (d .at - c .at))

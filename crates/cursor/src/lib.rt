@@ -8,6 +8,7 @@ ghost use Rattle.cursor.specs.Cursors.{rest, Seen, isOver};
 ghost use Rattle.cursor.specs.Moved.{Moved};
 use text::CodePoint;
 use text::Decoded;
+use token::LiteralKind;
 use token::TokenKind;
 
 pub struct Cursor {
@@ -23,6 +24,18 @@ pub enum Step {
 // What a rule of the book gives: the kind of the token, and the cursor past it.
 pub struct Lexed {
     pub kind: TokenKind,
+    pub next: Cursor,
+}
+
+// The kind of a token whose place is not known yet: a literal's has the cursor at which its suffix starts.
+pub enum Kinded {
+    Plain(TokenKind),
+    Literal(LiteralKind, Cursor),
+}
+
+// What a rule of the book gives that may be a literal: the kind, and the cursor past the token.
+pub struct Scanned {
+    pub kind: Kinded,
     pub next: Cursor,
 }
 

@@ -39,11 +39,15 @@ lifetime L numbered = do
 abbrev pub naming : Lists → ℕ → Bool
 naming L c = or (starting L c) (digit c)
 
-abbrev pub lifetimeOrChar : Lists → Eater TokenKind
-lifetimeOrChar L =
-    ifTwo (naming L) (is 'single') (character L)
+-- a lifetime, or else what a quote begins otherwise
+abbrev pub lifetimeOr : Lists → Eater TokenKind → Eater TokenKind
+lifetimeOr L char =
+    ifTwo (naming L) (is 'single') char
     (ifEat (is 'r')
-    (ifTwo (is '#') (starting L) (eat 2 >> while (going L) >> give RawLifetime) (lifetimeRest L false 2))
+       (ifTwo (is '#') (starting L) (eat 2 >> while (going L) >> give RawLifetime) (lifetimeRest L false 2))
     (ifAt digit (lifetime L true)
     (ifAt (starting L) (lifetime L false)
-    (character L))))
+    char)))
+
+abbrev pub lifetimeOrChar : Lists → Eater TokenKind
+lifetimeOrChar L = lifetimeOr L (character L)

@@ -1,1 +1,2 @@
 mod Rules
+mod Names

@@ -9,13 +9,17 @@ ghost use Rattle.token.specs.Lists.{lent};
 ghost use Rattle.token.specs.Literals.{identifier};
 ghost use Rattle.token.specs.Words.{inInvalid, invalidIdent, prefixMark, identOrUnknownPrefix};
 ghost use Rattle.token.specs.Prefixed.{afterK};
+ghost use Rattle.words.specs.Lives.{RestRan, rawName};
 ghost use Rattle.cursor.specs.Cursors.{rest};
 ghost use Rattle.cursor.specs.Moved.{Moved};
 ghost use Rattle.cursor.specs.Ran.{left, Ran};
 use cursor::Cursor;
+use cursor::Kinded;
 use cursor::Lexed;
+use cursor::Scanned;
 use cursor::Step;
 use text::CodePoint;
+use token::LiteralKind;
 use token::TokenKind;
 
 // Past what goes on in an identifier.
@@ -147,4 +151,58 @@ pub fn after_k(text: &[u8], from: Cursor, starts: &[u32], continues: &[u32], emo
         };
     }
     ident_or_unknown_prefix(text, from, continues, emoji)
+}
+
+// What stands after a quote: a lifetime, or a name that a quote closes; or neither, and it is a character literal.
+pub enum Life {
+    Found(Scanned),
+    Char,
+}
+
+// The rest of a name after a quote. A quote after it makes it a character literal, without a suffix.
+fn lifetime_rest(text: &[u8], from: Cursor, numbered: bool, continues: &[u32]) -> Scanned
+    requires { ⌜ Good (now continues) ⌝ }
+    ensures { λ r. ⌜ RestRan (now (continues .entry)) numbered (now (text .entry)) from r ⌝ }
+{
+    let next = eat_continue(text, from, continues);
+    let c = next.first(text);
+    if c == 0x27 {
+        let past = next.bump(text);
+        let kind = LiteralKind::Char { terminated: true };
+        return Scanned {
+            kind: Kinded::Literal(kind, past),
+            next: past,
+        };
+    }
+    if numbered {
+        let kind = TokenKind::Lifetime {
+            starts_with_number: true,
+        };
+        return Scanned {
+            kind: Kinded::Plain(kind),
+            next,
+        };
+    }
+    if c == 0x23 {
+        return Scanned {
+            kind: Kinded::Plain(TokenKind::UnknownPrefixLifetime),
+            next,
+        };
+    }
+    let kind = TokenKind::Lifetime {
+        starts_with_number: false,
+    };
+    Scanned {
+        kind: Kinded::Plain(kind),
+        next,
+    }
+}
+
+// A raw lifetime, after the quote, its r and its hash: the start of an identifier and what goes on in it.
+fn raw_lifetime(text: &[u8], from: Cursor, continues: &[u32]) -> Cursor
+    requires { ⌜ Good (now continues) ⌝ }
+    ensures { λ r. ⌜ Ran (rawName (now (continues .entry))) (now (text .entry)) from r tt ⌝ }
+{
+    let start = from.bump(text);
+    eat_continue(text, start.bump(text), continues)
 }

@@ -1,0 +1,39 @@
+-- Moves in bytes: what a run of characters of one kind took, and one character.
+use Prim.Native.Nat.{ℕ, zero, suc, _+_, _-_, _≤_, _<_}
+use mathlib.Core.Path.{_≡_, refl, sym, ap, subst, _∙_}
+use mathlib.Core.Bool.{Bool, true, false}
+use mathlib.Core.List.{List, [], _∷_, _++_}
+use lib.ListN.{length, getD, take, drop}
+use native.Mathlib.Omega.{arith}
+use Rattle.basics.specs.Choice.{pick}
+use Rattle.text.specs.Chars.{width, size}
+use Rattle.eaters.specs.Eat.{takeWhile, while, eat}
+use Rattle.eaters.proofs.Fits.{Fits, fits-while, fits-eat}
+use Rattle.cursor.specs.declared.Cursor.{Cursor}
+use Rattle.cursor.specs.Cursors.{rest}
+use Rattle.cursor.specs.Moved.{Moved, Passed, passed}
+use Rattle.cursor.specs.Ran.{left, Ran}
+use Rattle.cursor.proofs.Moves.{bumped}
+use Rattle.cursor.proofs.Runs.{ran-bytes, ran-eat}
+use Rattle.cursor.proofs.Loops.{ran-while}
+
+take-while : (p : ℕ → Bool) (cs : List ℕ) → take (length (takeWhile p cs)) cs ≡ takeWhile p cs
+take-while p [] = refl
+take-while p (c ∷ cs) = go (p c) (take-while p cs)
+  where
+    go : (t : Bool) → take (length (takeWhile p cs)) cs ≡ takeWhile p cs → take (length (pick t (c ∷ takeWhile p cs) [])) (c ∷ cs) ≡ pick t (c ∷ takeWhile p cs) []
+    go true e = ap (λ (l : List ℕ). c ∷ l) e
+    go false e = refl
+
+pub while-bytes : (p : ℕ → Bool) {s : List ℕ} {a b : Cursor} → Moved s a b (left (while p) (rest s a)) → b .at ≡ a .at + size (takeWhile p (rest s a))
+unfolding while
+while-bytes p {s} {a} m = ran-bytes (while p) (ran-while p m) (fits-while p .fits (rest s a) (omega arith)) ∙ ap (λ (l : List ℕ). a .at + size l) (take-while p (rest s a))
+
+-- past a character that is no 0
+pub bump-bytes : {s : List ℕ} {b d : Cursor} {x : ℕ} → x ≡ getD (rest s b) 0 0 → 0 < x → Moved s b d (drop 1 (rest s b)) → d .at ≡ b .at + width x
+unfolding eat
+bump-bytes {s} {b} {d} {x} e h m =
+    let f : rest s b ≡ x ∷ rest s d = bumped e h m in
+    let n : 1 ≤ length (rest s b) = omega (arith, ap length f) in
+    let t : take 1 (rest s b) ≡ x ∷ [] = ap (take 1) f in
+    ran-bytes (eat 1) (ran-eat m) n ∙ ap (λ (l : List ℕ). b .at + size l) t ∙ omega arith

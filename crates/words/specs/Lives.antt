@@ -1,0 +1,28 @@
+-- What the scans of lifetimes promise: their rules in the book, whatever was taken before them, and whatever a quote begins otherwise.
+use Prim.Native.Nat.{ℕ}
+use mathlib.Core.Path.{_≡_}
+use mathlib.Core.Bool.{Bool}
+use mathlib.Core.List.{List, []}
+use Rattle.eaters.specs.Eat.{Got, Eater, nothing, eat, while, _>>=_, _>>_}
+use Rattle.token.specs.declared.TokenKind.{TokenKind}
+use Rattle.token.specs.Lists.{lent, going}
+use Rattle.token.specs.Lifetimes.{lifetimeRest, lifetimeOr}
+use Rattle.cursor.specs.declared.Cursor.{Cursor}
+use Rattle.cursor.specs.declared.Scanned.{Scanned}
+use Rattle.cursor.specs.Cursors.{rest}
+use Rattle.cursor.specs.Ran.{Ran, kindFrom}
+use Rattle.words.specs.declared.Life.{Life}
+use Rattle.words.specs.declared.Life.the-variants.{Found, Char}
+
+-- the rest of a name, of which any number of bytes is taken before
+pub record RestRan (continues : List ℕ) (numbered : Bool) (s : List ℕ) (from : Cursor) (r : Scanned) : Type 0 where
+  pub ran : (before : ℕ) → Ran (lifetimeRest (lent [] continues []) numbered before) s from (r .next) (kindFrom before from (r .kind))
+
+-- the start of an identifier after a hash, and what goes on in it
+abbrev pub rawName : (continues : List ℕ) → Eater (Unit {0})
+rawName continues = eat 2 >> while (going (lent [] continues [])) >> nothing
+
+-- a lifetime was found, whatever a quote begins otherwise; or that is what it begins
+abbrev pub LifeRan : (starts continues s : List ℕ) → Cursor → Life → Type 0
+LifeRan starts continues s from (Found r) = (char : Eater TokenKind) → Ran (lifetimeOr (lent starts continues []) char) s from (r .next) (kindFrom 1 from (r .kind))
+LifeRan starts continues s from Char = (char : Eater TokenKind) → lifetimeOr (lent starts continues []) char (rest s from) ≡ char (rest s from)
