@@ -64,7 +64,7 @@ unfolding ifAt
 fits-ifAt {A} {n} {x} {y} p g h = record { fits = λ cs k. by-pick (λ (r : Got A). r .took ≤ length cs) (p (getD cs 0 0)) (x cs) (y cs) (λ t. g .fits cs k) (λ t. h .fits cs k) }
 
 -- what a test that fails at the end has seen is there
-there : (p : ℕ → Bool) → p 0 ≡ false → (cs : List ℕ) (k : ℕ) → p (getD cs k 0) ≡ true → suc k ≤ length cs
+pub there : (p : ℕ → Bool) → p 0 ≡ false → (cs : List ℕ) (k : ℕ) → p (getD cs k 0) ≡ true → suc k ≤ length cs
 there p z [] k t = let e : _≡_ {A = Bool} true false = sym t ∙ z in let n : _≡_ {A = ℕ} 0 1 = cc in absurd (omega arith)
 there p z (c ∷ cs) zero t = omega arith
 there p z (c ∷ cs) (suc k) t = suc-le-suc (there p z cs k t)

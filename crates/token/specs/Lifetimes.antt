@@ -44,7 +44,7 @@ abbrev pub lifetimeOr : Lists → Eater TokenKind → Eater TokenKind
 lifetimeOr L char =
     ifTwo (naming L) (is 'single') char
     (ifEat (is 'r')
-       (ifTwo (is '#') (starting L) (eat 2 >> while (going L) >> give RawLifetime) (lifetimeRest L false 2))
+    (ifTwo (is '#') (starting L) (eat 2 >> while (going L) >> give RawLifetime) (lifetimeRest L false 2))
     (ifAt digit (lifetime L true)
     (ifAt (starting L) (lifetime L false)
     char)))

@@ -3,13 +3,14 @@
 ghost use mathlib.Core.Path.{_≡_};
 ghost use mathlib.Core.List.{[]};
 ghost use Rattle.lists.specs.Rules.{Good};
-ghost use Rattle.classes.specs.Identifiers.{idContinue};
+ghost use Rattle.classes.specs.Identifiers.{digit, idContinue};
 ghost use Rattle.eaters.specs.Eat.{while};
 ghost use Rattle.token.specs.Lists.{lent};
 ghost use Rattle.token.specs.Literals.{identifier};
 ghost use Rattle.token.specs.Words.{inInvalid, invalidIdent, prefixMark, identOrUnknownPrefix};
 ghost use Rattle.token.specs.Prefixed.{afterK};
-ghost use Rattle.words.specs.Lives.{RestRan, rawName};
+ghost use Rattle.words.specs.Lives.{RestRan, rawName, RawRan, LifeRan};
+ghost use Rattle.token.specs.declared.TokenKind.the-variants.{RawLifetime};
 ghost use Rattle.cursor.specs.Cursors.{rest};
 ghost use Rattle.cursor.specs.Moved.{Moved};
 ghost use Rattle.cursor.specs.Ran.{left, Ran};
@@ -198,11 +199,58 @@ fn lifetime_rest(text: &[u8], from: Cursor, numbered: bool, continues: &[u32]) -
     }
 }
 
-// A raw lifetime, after the quote, its r and its hash: the start of an identifier and what goes on in it.
+// A raw lifetime, from its hash on: the hash, the start of an identifier and what goes on in it.
 fn raw_lifetime(text: &[u8], from: Cursor, continues: &[u32]) -> Cursor
     requires { ⌜ Good (now continues) ⌝ }
-    ensures { λ r. ⌜ Ran (rawName (now (continues .entry))) (now (text .entry)) from r tt ⌝ }
+    ensures { λ r. ⌜ Ran (rawName (now (continues .entry))) (now (text .entry)) from r RawLifetime ⌝ }
 {
     let start = from.bump(text);
     eat_continue(text, start.bump(text), continues)
+}
+
+// What a quote and an r begin, after them: a raw lifetime, or the rest of a name.
+fn after_quote_r(text: &[u8], from: Cursor, starts: &[u32], continues: &[u32]) -> Scanned
+    requires { ⌜ Good (now starts) × Good (now continues) ⌝ }
+    ensures { λ r. ⌜ RawRan (now (starts .entry)) (now (continues .entry)) (now (text .entry)) from r ⌝ }
+{
+    if from.first(text) != 0x23 {
+        return lifetime_rest(text, from, false, continues);
+    }
+    let third = from.second(text);
+    if classes::id_start(third, starts) {
+        let next = raw_lifetime(text, from, continues);
+        return Scanned {
+            kind: Kinded::Plain(TokenKind::RawLifetime),
+            next,
+        };
+    }
+    lifetime_rest(text, from, false, continues)
+}
+
+fn is_digit(c: CodePoint) -> bool
+    ensures { λ r. ⌜ r ≡ digit c ⌝ }
+{
+    if 0x30 <= c { c <= 0x39 } else { false }
+}
+
+// What a quote begins, after it, if it is a lifetime or a name that a quote closes.
+pub fn lifetime(text: &[u8], from: Cursor, starts: &[u32], continues: &[u32]) -> Life
+    requires { ⌜ Good (now starts) × Good (now continues) ⌝ }
+    ensures { λ r. ⌜ LifeRan (now (starts .entry)) (now (continues .entry)) (now (text .entry)) from r ⌝ }
+{
+    let d = from.second(text);
+    if d == 0x27 {
+        return Life::Char;
+    }
+    let c = from.first(text);
+    if c == 0x72 {
+        return Life::Found(after_quote_r(text, from.bump(text), starts, continues));
+    }
+    if is_digit(c) {
+        return Life::Found(lifetime_rest(text, from.bump(text), true, continues));
+    }
+    if classes::id_start(c, starts) {
+        return Life::Found(lifetime_rest(text, from.bump(text), false, continues));
+    }
+    Life::Char
 }
