@@ -1,3 +1,4 @@
+-- `comment::block_rest` meets its contract. A search for an end; one law for each way of a turn (Blocks).
 use Rattle.comment.proofs.Blocks.{Deep, deep-start, deeper-fits, none-in, slash-in, star-in, open-in, close-in, last-in, end-in}
 use Rattle.cursor.proofs.Moves.{fewer-1, fewer-2}
 use Rattle.cursor.specs.Cursors.{rest}
@@ -6,11 +7,6 @@ use lib.ListN.{length}
 use borrow.Author.Needs.{needs}
 use Rattle.comment.proofs.block_rest.Statement.{statement}
 use Rattle.comment.proofs.block_rest.Tie as tie
-use Rattle.comment.proofs.block_rest.Reads as reads
-use Rattle.comment.proofs.block_rest.Lts as lts
-use Rattle.cursor.proofs.Cursor.bump.Reads as bump-reads
-use Rattle.cursor.proofs.Cursor.first.Reads as first-reads
-use Rattle.cursor.proofs.Cursor.peek.Reads as peek-reads
 
 abbrev Inv-loop : tie.InvT-loop
 Inv-loop text cur₀ depth₀ cur depth = Deep text cur₀ cur depth
@@ -18,91 +14,69 @@ Inv-loop text cur₀ depth₀ cur depth = Deep text cur₀ cur depth
 abbrev μ-loop : tie.MeasureT-loop
 μ-loop text cur₀ depth₀ cur depth = length (rest text cur)
 
--- src/lib.rt:122:5
 loop-holds : tie.Need-loop-holds Inv-loop μ-loop
 loop-holds c = deep-start _ _
 
--- src/lib.rt:123:34
 peek-requires : tie.Need-peek-requires Inv-loop μ-loop
 peek-requires c κs = search needs
 
--- src/lib.rt:123:23
 enum-known-c : tie.Need-enum-known-c Inv-loop μ-loop
 enum-known-c c = search needs
 
--- src/lib.rt:124:13
 enum-told : tie.Need-enum-told Inv-loop μ-loop
 enum-told c = search needs
 
--- src/lib.rt:124:13
 returns : tie.Need-returns Inv-loop μ-loop
 returns c = search end-in
 
--- src/lib.rt:131:16
 first-requires : tie.Need-first-requires Inv-loop μ-loop
 first-requires c κs = search needs
 
--- src/lib.rt:132:17
 bump-requires : tie.Need-bump-requires Inv-loop μ-loop
 bump-requires c κs = search needs
 
--- src/lib.rt:133:17
 add-depth : tie.Need-add-depth Inv-loop μ-loop
 add-depth c = search deeper-fits
 
--- src/lib.rt:122:5
 loop-less : tie.Need-loop-less Inv-loop μ-loop
 loop-less c = search fewer-2
 
--- src/lib.rt:122:5
 loop-again : tie.Need-loop-again Inv-loop μ-loop
 loop-again c = search open-in
 
--- src/lib.rt:122:5
 loop-less-2 : tie.Need-loop-less-2 Inv-loop μ-loop
 loop-less-2 c = search fewer-1
 
--- src/lib.rt:122:5
 loop-again-2 : tie.Need-loop-again-2 Inv-loop μ-loop
 loop-again-2 c = search slash-in
 
--- src/lib.rt:136:16
 first-requires-2 : tie.Need-first-requires-2 Inv-loop μ-loop
 first-requires-2 c κs = search needs
 
--- src/lib.rt:137:17
 bump-requires-2 : tie.Need-bump-requires-2 Inv-loop μ-loop
 bump-requires-2 c κs = search needs
 
--- src/lib.rt:139:21
 returns-2 : tie.Need-returns-2 Inv-loop μ-loop
 returns-2 c = search last-in
 
--- src/lib.rt:144:17
 sub-depth : tie.Need-sub-depth Inv-loop μ-loop
 sub-depth c = omega arith
 
--- src/lib.rt:122:5
 loop-less-3 : tie.Need-loop-less-3 Inv-loop μ-loop
 loop-less-3 c = search fewer-2
 
--- src/lib.rt:122:5
 loop-again-3 : tie.Need-loop-again-3 Inv-loop μ-loop
 loop-again-3 c = search close-in
 
--- src/lib.rt:122:5
 loop-less-4 : tie.Need-loop-less-4 Inv-loop μ-loop
 loop-less-4 c = search fewer-1
 
--- src/lib.rt:122:5
 loop-again-4 : tie.Need-loop-again-4 Inv-loop μ-loop
 loop-again-4 c = search star-in
 
--- src/lib.rt:122:5
 loop-less-5 : tie.Need-loop-less-5 Inv-loop μ-loop
 loop-less-5 c = search fewer-1
 
--- src/lib.rt:122:5
 loop-again-5 : tie.Need-loop-again-5 Inv-loop μ-loop
 loop-again-5 c = search none-in
 

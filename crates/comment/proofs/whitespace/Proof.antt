@@ -1,16 +1,12 @@
+-- `comment::whitespace` meets its contract. The rule, from the run of its scan (Rules).
 use Rattle.comment.proofs.Rules.{whitespace-in}
 use borrow.Author.Needs.{needs}
 use Rattle.comment.proofs.whitespace.Statement.{statement}
 use Rattle.comment.proofs.whitespace.Tie as tie
-use Rattle.comment.proofs.whitespace.Reads as reads
-use Rattle.comment.proofs.whitespace.Lts as lts
-use Rattle.comment.proofs.eat_whitespace.Reads as eat-whitespace-reads
 
--- src/lib.rt:46:15
 eat-whitespace-requires : tie.Need-eat-whitespace-requires
 eat-whitespace-requires c κs = search needs
 
--- src/lib.rt:41:1
 returns : tie.Need-returns
 returns c = search whitespace-in
 

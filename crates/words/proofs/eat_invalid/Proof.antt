@@ -1,3 +1,4 @@
+-- `words::eat_invalid` meets its contract. A run of characters of one kind (the laws of `Eaten`).
 use Rattle.cursor.proofs.Moves.{fewer-1}
 use Rattle.cursor.proofs.Loops.{Eaten, eaten-none, eaten-on, eaten-off, eaten-over}
 use Rattle.cursor.specs.Cursors.{rest}
@@ -8,10 +9,6 @@ use mathlib.Core.List.{[]}
 use borrow.Author.Needs.{needs}
 use Rattle.words.proofs.eat_invalid.Statement.{statement}
 use Rattle.words.proofs.eat_invalid.Tie as tie
-use Rattle.words.proofs.eat_invalid.Reads as reads
-use Rattle.words.proofs.eat_invalid.Lts as lts
-use Rattle.cursor.proofs.Cursor.peek.Reads as peek-reads
-use Rattle.words.proofs.in_invalid.Reads as in-invalid-reads
 
 abbrev Inv-loop : tie.InvT-loop
 Inv-loop text continues emoji cur₀ cur = Eaten (inInvalid (lent [] continues emoji)) text cur₀ cur
@@ -19,39 +16,30 @@ Inv-loop text continues emoji cur₀ cur = Eaten (inInvalid (lent [] continues e
 abbrev μ-loop : tie.MeasureT-loop
 μ-loop text continues emoji cur₀ cur = length (rest text cur)
 
--- src/lib.rt:73:5
 loop-holds : tie.Need-loop-holds Inv-loop μ-loop
 loop-holds c = eaten-none _ _ _
 
--- src/lib.rt:74:15
 peek-requires : tie.Need-peek-requires Inv-loop μ-loop
 peek-requires c κs = search needs
 
--- src/lib.rt:75:23
 enum-known-c : tie.Need-enum-known-c Inv-loop μ-loop
 enum-known-c c = search needs
 
--- src/lib.rt:76:20
 in-invalid-requires : tie.Need-in-invalid-requires Inv-loop μ-loop
 in-invalid-requires c κs = search needs
 
--- src/lib.rt:73:5
 loop-less : tie.Need-loop-less Inv-loop μ-loop
 loop-less c = search fewer-1
 
--- src/lib.rt:73:5
 loop-again : tie.Need-loop-again Inv-loop μ-loop
 loop-again c = search eaten-on
 
--- src/lib.rt:79:21
 returns : tie.Need-returns Inv-loop μ-loop
 returns c = search eaten-off
 
--- src/lib.rt:82:27
 enum-told : tie.Need-enum-told Inv-loop μ-loop
 enum-told c = search needs
 
--- src/lib.rt:82:27
 returns-2 : tie.Need-returns-2 Inv-loop μ-loop
 returns-2 c = search eaten-over
 
