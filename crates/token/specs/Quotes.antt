@@ -35,7 +35,10 @@ singleTurn d c e =
     (on 0 d))))
 
 -- if the second character is a quote and the first is no backslash: those two; else the scan
+abbrev pub single : Eater Bool
+single = ifTwo (λ c. not (is '\' c)) (is 'single') (eat 2 >> give true) (scan singleTurn 0 1)
+
 abbrev pub singleQuoted : (Bool → LiteralKind) → Eater Body
 singleQuoted kind = do
-  terminated ← ifTwo (λ c. not (is '\' c)) (is 'single') (eat 2 >> give true) (scan singleTurn 0 1)
+  terminated ← single
   give (quoted kind terminated)
