@@ -1,1 +1,3 @@
 mod Quotes
+mod Pounds
+mod Closes

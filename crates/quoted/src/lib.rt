@@ -2,7 +2,10 @@
 ghost use mathlib.Core.Path.{_≡_};
 ghost use Rattle.eaters.specs.Scan.{scan};
 ghost use Rattle.token.specs.Quotes.{doubleTurn, singleTurn, single};
+ghost use Rattle.eaters.specs.Scan.{firstWith};
+ghost use Rattle.token.specs.Names.{'double', '#'};
 ghost use Rattle.cursor.specs.Ran.{Ran};
+ghost use Rattle.quoted.specs.Raws.{Counted, CountedMost};
 use cursor::Cursor;
 use cursor::Ended;
 use cursor::Step;
@@ -91,5 +94,78 @@ pub fn single_quoted_string(text: &[u8], from: Cursor) -> Ended
     Ended {
         next: quote.bump(text),
         terminated: true,
+    }
+}
+
+// The cursor past some hashes, and how many they are.
+pub struct Hashes {
+    pub next: Cursor,
+    pub count: usize,
+}
+
+// The hashes at a cursor.
+pub fn eat_hashes(text: &[u8], from: Cursor) -> Hashes
+    ensures { λ r. ⌜ Counted (now (text .entry)) from r ⌝ }
+{
+    let mut cur = from;
+    let mut count: usize = 0;
+    loop {
+        match cur.peek(text) {
+            Step::Got(c, next) => {
+                if c != 0x23 {
+                    return Hashes { next: cur, count };
+                }
+                cur = next;
+                count += 1;
+            }
+            Step::Over => return Hashes { next: cur, count },
+        }
+    }
+}
+
+// The hashes at a cursor, `most` at the most.
+pub fn eat_hashes_most(text: &[u8], from: Cursor, most: usize) -> Hashes
+    ensures { λ r. ⌜ CountedMost most (now (text .entry)) from r ⌝ }
+{
+    let mut cur = from;
+    let mut count: usize = 0;
+    while count < most {
+        match cur.peek(text) {
+            Step::Got(c, next) => {
+                if c != 0x23 {
+                    return Hashes { next: cur, count };
+                }
+                cur = next;
+                count += 1;
+            }
+            Step::Over => return Hashes { next: cur, count },
+        }
+    }
+    Hashes { next: cur, count }
+}
+
+// The rest of a raw string, after its quote: the first quote with `count` hashes after it closes. Hashes that were counted are not read again.
+pub fn raw_rest(text: &[u8], from: Cursor, count: usize) -> Ended
+    ensures { λ r. ⌜ Ran (firstWith 'double' '#' count) (now (text .entry)) from (r .next) (r .terminated) ⌝ }
+{
+    let mut cur = from;
+    loop {
+        let Step::Got(c, next) = cur.peek(text) else {
+            return Ended {
+                next: cur,
+                terminated: false,
+            };
+        };
+        cur = next;
+        if c == 0x22 {
+            let hashes = eat_hashes_most(text, cur, count);
+            cur = hashes.next;
+            if hashes.count == count {
+                return Ended {
+                    next: cur,
+                    terminated: true,
+                };
+            }
+        }
     }
 }

@@ -1,0 +1,154 @@
+-- Counting hashes, in the facts of the code.
+use Prim.Native.Nat.{ℕ, zero, suc, _+_, _-_, _*_, _^_, _≤_, _<_, zero-le, suc-le-suc}
+use mathlib.Core.Path.{_≡_, refl, sym, ap, subst, _∙_}
+use mathlib.Core.Bool.{Bool, true, false}
+use mathlib.Core.List.{List, [], _∷_}
+use mir.Val.{Fits}
+use mir.Syntax.{w64}
+use lib.Dec.{eqb}
+use lib.ListN.{length, getD, drop, length-drop}
+use native.Mathlib.Omega.{arith}
+use borrow.Author.Tests.{ne-eqb}
+use Rattle.basics.specs.Choice.{pick}
+use Rattle.eaters.specs.Eat.{takeWhile, while, takeMost, whileMost}
+use Rattle.token.specs.Names.{is, '#'}
+use Rattle.cursor.specs.declared.Cursor.{Cursor}
+use Rattle.cursor.specs.declared.Step.{Step}
+use Rattle.cursor.specs.declared.Step.the-variants.{Got, Over}
+use Rattle.cursor.specs.Cursors.{rest, Here, Seen}
+use Rattle.cursor.specs.Moved.{Moved, start, over, onward, arrive, left-of}
+use Rattle.cursor.specs.Ran.{left}
+use Rattle.cursor.proofs.Moves.{char-at, end-at}
+use Rattle.cursor.proofs.Steps.{rest-short}
+use Rattle.cursor.proofs.Loops.{Eaten, eaten-none, eaten-on, eaten-off, eaten-over}
+use Rattle.quoted.specs.Raws.{Counted, CountedMost}
+use Rattle.quoted.specs.declared.Hashes.{Hashes}
+
+abbrev run : List ℕ → ℕ
+run cs = length (takeWhile (is '#') cs)
+
+run-on : (c : ℕ) (cs : List ℕ) → c ≡ 0x23 → run (c ∷ cs) ≡ suc (run cs)
+run-on c cs e = rw e
+
+run-off : (c : ℕ) (cs : List ℕ) → (c ≡ 0x23 → ⊥) → run (c ∷ cs) ≡ 0
+run-off c cs n = rw (ne-eqb c 0x23 n)
+
+-- as many are counted as were passed; the others are still there
+pub record Counting (s : List ℕ) (a b : Cursor) (n : ℕ) : Type 0 where
+  pub eaten : Eaten (is '#') s a b
+  pub count : n + run (rest s b) ≡ run (rest s a)
+  pub few : n + length (rest s b) ≤ length (rest s a)
+
+pub counting-none : (s : List ℕ) (a : Cursor) → Counting s a a 0
+counting-none s a = record { eaten = eaten-none (is '#') s a; count = omega arith; few = omega arith }
+
+module _ {s : List ℕ} {a b : Cursor} {n : ℕ} {r : Step} (i : Counting s a b n) (h : Seen s b r) where
+  module _ {x : ℕ} {d : Cursor} (e : r ≡ Got x d) where
+    pub counting-fits : length s * 1 < 2 ^ 63 → Fits w64 (n + 1)
+    counting-fits g = record { fits = omega (arith, ap length (char-at e h .chars), i .few, rest-short s a) }
+
+    pub counting-on : x ≡ 0x23 → Counting s a d (n + 1)
+    counting-on q =
+        record {
+          eaten = eaten-on (is '#') (i .eaten) h e (sym (ap (is '#') q)) refl;
+          count = omega (arith, i .count, ap run (char-at e h .chars), run-on x (rest s d) q);
+          few = omega (arith, i .few, ap length (char-at e h .chars));
+        }
+
+    pub counted-off : (x ≡ 0x23 → ⊥) → Counted s a (record { next = b; count = n })
+    counted-off q =
+        record {
+          moved = eaten-off (is '#') (i .eaten) h e (sym (ne-eqb x 0x23 q)) refl;
+          count = omega (arith, i .count, ap run (char-at e h .chars), run-off x (rest s d) q);
+        }
+
+  pub counted-over : r ≡ Over → Counted s a (record { next = b; count = n })
+  counted-over e = record { moved = eaten-over (is '#') (i .eaten) h e; count = omega (arith, i .count, ap run (end-at e h)) }
+
+-- AT MOST m HASHES: n are counted, so m - n may still come
+abbrev pub most : ℕ → List ℕ → ℕ
+most k cs = length (takeMost k (is '#') cs)
+
+abbrev pub leftMost : ℕ → List ℕ → List ℕ
+leftMost k cs = left (whileMost k (is '#')) cs
+
+most-on : (k c : ℕ) (cs : List ℕ) → c ≡ 0x23 → most (suc k) (c ∷ cs) ≡ suc (most k cs)
+most-on k c cs e = rw e
+
+most-off : (k c : ℕ) (cs : List ℕ) → (c ≡ 0x23 → ⊥) → most (suc k) (c ∷ cs) ≡ 0
+most-off k c cs n = rw (ne-eqb c 0x23 n)
+
+left-on : (k c : ℕ) (cs : List ℕ) → c ≡ 0x23 → leftMost (suc k) (c ∷ cs) ≡ leftMost k cs
+unfolding whileMost
+left-on k c cs e = rw e
+
+left-off : (k c : ℕ) (cs : List ℕ) → (c ≡ 0x23 → ⊥) → leftMost (suc k) (c ∷ cs) ≡ c ∷ cs
+unfolding whileMost
+left-off k c cs n = rw (ne-eqb c 0x23 n)
+
+left-none : (k : ℕ) → leftMost k [] ≡ []
+unfolding whileMost
+left-none zero = refl
+left-none (suc k) = refl
+
+most-none : (k : ℕ) → most k [] ≡ 0
+most-none zero = refl
+most-none (suc k) = refl
+
+left-done : (cs : List ℕ) → leftMost 0 cs ≡ cs
+unfolding whileMost
+left-done cs = refl
+
+pub record CountingMost (m : ℕ) (s : List ℕ) (a b : Cursor) (n : ℕ) : Type 0 where
+  pub moved : Moved s a b (rest s b)
+  pub same : leftMost (m - n) (rest s b) ≡ leftMost m (rest s a)
+  pub count : n + most (m - n) (rest s b) ≡ most m (rest s a)
+  pub few : n ≤ m
+
+pub most-start : (m : ℕ) (s : List ℕ) (a : Cursor) → CountingMost m s a a 0
+most-start m s a =
+    let z : m - 0 ≡ m = omega arith in
+    record { moved = start s a; same = ap (λ (k : ℕ). leftMost k (rest s a)) z; count = omega (arith, ap (λ (k : ℕ). most k (rest s a)) z); few = omega arith }
+
+module _ (m : ℕ) {s : List ℕ} {a b : Cursor} {n : ℕ} (i : CountingMost m s a b n) where
+  module _ (l : n < m) {r : Step} (h : Seen s b r) where
+    next-left : m - n ≡ suc (m - (n + 1))
+    next-left = omega arith
+
+    module _ {x : ℕ} {d : Cursor} (e : r ≡ Got x d) where
+      here-left : leftMost (m - n) (rest s b) ≡ leftMost (suc (m - (n + 1))) (x ∷ rest s d)
+      here-left = ap (λ (k : ℕ). leftMost k (rest s b)) next-left ∙ ap (leftMost (suc (m - (n + 1)))) (char-at e h .chars)
+
+      here-most : most (m - n) (rest s b) ≡ most (suc (m - (n + 1))) (x ∷ rest s d)
+      here-most = ap (λ (k : ℕ). most k (rest s b)) next-left ∙ ap (most (suc (m - (n + 1)))) (char-at e h .chars)
+
+      pub most-more : x ≡ 0x23 → CountingMost m s a d (n + 1)
+      most-more q =
+          record {
+            moved = onward (i .moved) (over (char-at e h));
+            same = sym (left-on (m - (n + 1)) x (rest s d) q) ∙ sym here-left ∙ i .same;
+            count = omega (arith, i .count, here-most, most-on (m - (n + 1)) x (rest s d) q);
+            few = omega arith;
+          }
+
+      pub most-other : (x ≡ 0x23 → ⊥) → CountedMost m s a (record { next = b; count = n })
+      most-other q =
+          record {
+            moved = arrive (i .moved) (char-at e h .chars ∙ sym (left-off (m - (n + 1)) x (rest s d) q) ∙ sym here-left ∙ i .same);
+            count = omega (arith, i .count, here-most, most-off (m - (n + 1)) x (rest s d) q);
+          }
+
+    pub most-over : r ≡ Over → CountedMost m s a (record { next = b; count = n })
+    most-over e =
+        record {
+          moved = arrive (i .moved) (end-at e h ∙ sym (left-none (m - n)) ∙ ap (leftMost (m - n)) (sym (end-at e h)) ∙ i .same);
+          count = omega (arith, i .count, ap (most (m - n)) (end-at e h), most-none (m - n));
+        }
+
+  pub most-done : m ≤ n → CountedMost m s a (record { next = b; count = n })
+  most-done l =
+      let z : m - n ≡ 0 = omega arith in
+      record {
+        moved = arrive (i .moved) (sym (left-done (rest s b)) ∙ ap (λ (k : ℕ). leftMost k (rest s b)) (sym z) ∙ i .same);
+        count = omega (arith, i .count, ap (λ (k : ℕ). most k (rest s b)) z);
+      }
