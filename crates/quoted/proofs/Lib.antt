@@ -1,3 +1,4 @@
 mod Quotes
 mod Pounds
 mod Closes
+mod Opens

@@ -8,7 +8,13 @@ use Rattle.token.specs.Names.{is, '#'}
 use Rattle.cursor.specs.declared.Cursor.{Cursor}
 use Rattle.cursor.specs.Cursors.{rest}
 use Rattle.cursor.specs.Moved.{Moved}
-use Rattle.cursor.specs.Ran.{left}
+use Rattle.token.specs.declared.HashCount.{HashCount}
+use Rattle.token.specs.declared.HashCount.the-variants.{Of, NoCount}
+use Rattle.token.specs.declared.LiteralKind.{LiteralKind}
+use Rattle.token.specs.Literals.{Body}
+use Rattle.token.specs.RawStrings.{counted, uncounted, rawString}
+use Rattle.cursor.specs.Ran.{left, Ran}
+use Rattle.quoted.specs.declared.RawQuoted.{RawQuoted}
 use Rattle.quoted.specs.declared.Hashes.{Hashes}
 
 -- the hashes at a cursor, and how many they are
@@ -20,3 +26,12 @@ pub record Counted (s : List ℕ) (from : Cursor) (r : Hashes) : Type 0 where
 pub record CountedMost (n : ℕ) (s : List ℕ) (from : Cursor) (r : Hashes) : Type 0 where
   pub moved : Moved s from (r .next) (left (whileMost n (is '#')) (rest s from))
   pub count : r .count ≡ length (takeMost n (is '#') (rest s from))
+
+-- what a raw string's count makes of it
+abbrev pub rawBody : (HashCount → LiteralKind) → HashCount → Body
+rawBody kind (Of n) = counted kind n
+rawBody kind NoCount = uncounted kind
+
+-- a raw string of any kind
+pub record RawRan (s : List ℕ) (from : Cursor) (r : RawQuoted) : Type 0 where
+  pub ran : (kind : HashCount → LiteralKind) → Ran (rawString kind) s from (r .next) (rawBody kind (r .count))

@@ -5,10 +5,11 @@ ghost use Rattle.token.specs.Quotes.{doubleTurn, singleTurn, single};
 ghost use Rattle.eaters.specs.Scan.{firstWith};
 ghost use Rattle.token.specs.Names.{'double', '#'};
 ghost use Rattle.cursor.specs.Ran.{Ran};
-ghost use Rattle.quoted.specs.Raws.{Counted, CountedMost};
+ghost use Rattle.quoted.specs.Raws.{Counted, CountedMost, RawRan};
 use cursor::Cursor;
 use cursor::Ended;
 use cursor::Step;
+use token::HashCount;
 
 // The rest of a double-quoted literal, after its quote: a quote ends it; a backslash takes a backslash or a quote with it.
 pub fn double_quoted_string(text: &[u8], from: Cursor) -> Ended
@@ -167,5 +168,46 @@ pub fn raw_rest(text: &[u8], from: Cursor, count: usize) -> Ended
                 };
             }
         }
+    }
+}
+
+// The cursor past a raw string without its suffix, and its count of hashes.
+pub struct RawQuoted {
+    pub next: Cursor,
+    pub count: HashCount,
+}
+
+// A raw string, after its r: hashes, a quote, and the first quote with as many hashes. No count for a bad start, for no end, and for more than 255.
+pub fn raw_double_quoted_string(text: &[u8], from: Cursor) -> RawQuoted
+    ensures { λ r. ⌜ RawRan (now (text .entry)) from r ⌝ }
+{
+    let hashes = eat_hashes(text, from);
+    let n = hashes.count;
+    let quote = hashes.next;
+    let c = quote.first(text);
+    if c != 0x22 {
+        return RawQuoted {
+            next: quote.bump(text),
+            count: HashCount::NoCount,
+        };
+    }
+    let ended = raw_rest(text, quote.bump(text), n);
+    let next = ended.next;
+    let terminated = ended.terminated;
+    if terminated {
+        if n < 256 {
+            return RawQuoted {
+                next,
+                count: HashCount::Of(n as u8),
+            };
+        }
+        return RawQuoted {
+            next,
+            count: HashCount::NoCount,
+        };
+    }
+    RawQuoted {
+        next,
+        count: HashCount::NoCount,
     }
 }
