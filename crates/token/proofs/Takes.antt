@@ -63,14 +63,14 @@ fits-invalid L = fits-then (fits-while _) (fits-give _)
 fits-word : (L : Lists) → Fits 0 (identOrUnknownPrefix L)
 fits-word L = fits-then (fits-while (going L)) (fits-ifAt prefixMark (fits-give _) (fits-ifAt (smiling L) (fits-invalid L) (fits-give _)))
 
-fits-double : (mk : Bool → LiteralKind) → Fits 0 (doubleQuoted mk)
+pub fits-double : (mk : Bool → LiteralKind) → Fits 0 (doubleQuoted mk)
 fits-double mk = fits-bind (fits-scan doubleTurn 0 1) (λ t. fits-give _)
 
-fits-single : (mk : Bool → LiteralKind) → Fits 0 (singleQuoted mk)
+pub fits-single : (mk : Bool → LiteralKind) → Fits 0 (singleQuoted mk)
 fits-single mk =
     fits-bind (fits-ifTwo _ (is 'single') refl (fits-then (fits-eat 2) (fits-give true)) (fits-scan singleTurn 0 1)) (λ t. fits-give _)
 
-fits-raw : (mk : HashCount → LiteralKind) → Fits 0 (rawString mk)
+pub fits-raw : (mk : HashCount → LiteralKind) → Fits 0 (rawString mk)
 fits-raw mk =
     fits-bind (fits-while (is '#'))
     (λ h. fits-ifEat (is 'double') refl (fits-bind (fits-firstWith 'double' '#' (length h)) (λ t. fits-give _)) (fits-then fits-any (fits-give _)))
@@ -93,7 +93,7 @@ fits-based L base p q = fits-bind (fits-while p) (λ t. fits-choose _ (fits-frac
 fits-decimal : (L : Lists) → Fits 0 (decimal L)
 fits-decimal L = fits-then (fits-while decimals) (fits-fraction L Decimal)
 
-fits-number : (L : Lists) (c : ℕ) → Fits 0 (number L c)
+pub fits-number : (L : Lists) (c : ℕ) → Fits 0 (number L c)
 fits-number L c =
     fits-choose _
     (fits-ifEat _ refl (fits-based L Binary decimals digit)

@@ -1,0 +1,51 @@
+-- Literals from their bodies, in the facts of the code.
+use Prim.Native.Nat.{ℕ, _+_, _-_, _≤_}
+use mathlib.Core.Path.{_≡_, refl, sym, ap, subst, _∙_}
+use mathlib.Core.Bool.{Bool, true, false}
+use mathlib.Core.List.{List, []}
+use lib.ListN.{length, take}
+use native.Mathlib.Omega.{arith}
+use Rattle.text.specs.Chars.{size}
+use Rattle.eaters.specs.Eat.{Eater, Read, give, nothing, _>>=_, _>>_, choose}
+use Rattle.eaters.specs.Scan.{scan}
+use Rattle.eaters.proofs.Fits.{Fits}
+use Rattle.token.specs.declared.LiteralKind.{LiteralKind}
+use Rattle.token.specs.declared.TokenKind.{TokenKind}
+use Rattle.token.specs.declared.TokenKind.the-variants as kind
+use Rattle.token.specs.Lists.{Lists}
+use Rattle.token.specs.Literals.{identifier, Body, literal}
+use Rattle.token.specs.Quotes.{quoted, doubleTurn, doubleQuoted, single, singleQuoted}
+use Rattle.token.proofs.Takes.{fits-single, fits-double}
+use Rattle.cursor.specs.declared.Cursor.{Cursor}
+use Rattle.cursor.specs.declared.Kinded.{Kinded}
+use Rattle.cursor.specs.declared.Kinded.the-variants.{Literal}
+use Rattle.cursor.specs.declared.Scanned.{Scanned}
+use Rattle.cursor.specs.Cursors.{rest}
+use Rattle.cursor.specs.Ran.{Ran, kindFrom}
+use Rattle.cursor.proofs.Runs.{ran-word, ran-give, ran-bind, ran-then, ran-say, ran-texted, ran-this, ran-that, ran-bytes}
+use Rattle.literals.specs.Forms.{singleKind, doubleKind, SuffixRan, LiteralRan}
+
+-- a suffix is read, or not
+pub suffix-read : (L : Lists) (k : LiteralKind) {u : Bool} {s : List ℕ} {c d : Cursor} → u ≡ true → Ran (identifier L) s c d tt → SuffixRan L k u s c (record { kind = Literal k c; next = d })
+suffix-read L k e r = record { kind = refl; ran = ran-this (identifier L) nothing e r }
+
+pub suffix-none : (L : Lists) (k : LiteralKind) {u : Bool} {s : List ℕ} {c : Cursor} → u ≡ false → SuffixRan L k u s c (record { kind = Literal k c; next = c })
+suffix-none L k {s = s} {c} e = record { kind = refl; ran = ran-that (identifier L) nothing e (ran-give tt s c) }
+
+-- A LITERAL: its body, and then its suffix
+module _ (L : Lists) (m : Eater Body) (f : Fits 0 m) {s : List ℕ} {a b : Cursor} {x : Body} {r : Scanned} where
+  pub literal-in : Ran m s a b x → SuffixRan L (x .kind) (x .suffixed) s b r → LiteralRan L m s a r
+  literal-in p q =
+      let n : b .at ≡ a .at + size (take (m (rest s a) .took) (rest s a)) = ran-bytes m p (f .fits (rest s a) (omega arith)) in
+      record {
+        ran = λ before. ran-word
+          (ran-bind (λ (y : Read Body). choose (y .said .suffixed) (identifier L) nothing >> give (kind.Literal (y .said .kind) (before + size (y .text)))) (ran-texted p) (ran-then (q .ran) (ran-give _ s (r .next))))
+          (ap (kindFrom before a) (q .kind) ∙ ap (kind.Literal (x .kind)) (omega arith));
+      }
+
+module _ (L : Lists) {s : List ℕ} {a b : Cursor} {t : Bool} {k : LiteralKind} {r : Scanned} where
+  pub single-in : (mk : Bool → LiteralKind) → Ran single s a b t → k ≡ mk t → SuffixRan L k t s b r → LiteralRan L (singleQuoted mk) s a r
+  single-in mk p e q = literal-in L (singleQuoted mk) (fits-single mk) (ran-say (quoted mk) p) (subst (λ (j : LiteralKind). SuffixRan L j t s b r) e q)
+
+  pub double-in : (mk : Bool → LiteralKind) → Ran (scan doubleTurn 0 1) s a b t → k ≡ mk t → SuffixRan L k t s b r → LiteralRan L (doubleQuoted mk) s a r
+  double-in mk p e q = literal-in L (doubleQuoted mk) (fits-double mk) (ran-say (quoted mk) p) (subst (λ (j : LiteralKind). SuffixRan L j t s b r) e q)
