@@ -12,7 +12,10 @@ use Rattle.eaters.proofs.Fits.{Fits, fits-while, fits-eat}
 use Rattle.cursor.specs.declared.Cursor.{Cursor}
 use Rattle.cursor.specs.Cursors.{rest}
 use Rattle.cursor.specs.Moved.{Moved, Passed, passed}
-use Rattle.cursor.specs.Ran.{left, Ran}
+use Rattle.token.specs.declared.TokenKind.the-variants as kind
+use Rattle.cursor.specs.declared.Kinded.{Kinded}
+use Rattle.cursor.specs.declared.Kinded.the-variants.{Plain, Literal}
+use Rattle.cursor.specs.Ran.{left, Ran, kindFrom, Past}
 use Rattle.cursor.proofs.Moves.{bumped}
 use Rattle.cursor.proofs.Runs.{ran-bytes, ran-eat}
 use Rattle.cursor.proofs.Loops.{ran-while}
@@ -37,3 +40,8 @@ bump-bytes {s} {b} {d} {x} e h m =
     let n : 1 ≤ length (rest s b) = omega (arith, ap length f) in
     let t : take 1 (rest s b) ≡ x ∷ [] = ap (take 1) f in
     ran-bytes (eat 1) (ran-eat m) n ∙ ap (λ (l : List ℕ). b .at + size l) t ∙ omega arith
+
+-- the kind of a token, some bytes further on
+pub shifted : (k : Kinded) (n w : ℕ) (a b : Cursor) → Past b k → b .at ≡ a .at + w → kindFrom n a k ≡ kindFrom (n + w) b k
+shifted (Plain k) n w a b p e = refl
+shifted (Literal k d) n w a b p e = ap (kind.Literal k) (omega arith)

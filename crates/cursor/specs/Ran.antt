@@ -1,5 +1,5 @@
 -- What a scan of the code did, by an eater of the book.
-use Prim.Native.Nat.{ℕ, _+_, _-_}
+use Prim.Native.Nat.{ℕ, _+_, _-_, _≤_}
 use mathlib.Core.Path.{_≡_}
 use mathlib.Core.List.{List}
 use lib.ListN.{drop}
@@ -25,3 +25,8 @@ pub record Ran {A : Type 0} (m : Eater A) (s : List ℕ) (c d : Cursor) (x : A) 
 abbrev pub kindFrom : (before : ℕ) → Cursor → Kinded → TokenKind
 kindFrom before c (Plain k) = k
 kindFrom before c (Literal k d) = kind.Literal k (before + (d .at - c .at))
+
+-- a suffix does not start before c
+abbrev pub Past : Cursor → Kinded → Type 0
+Past c (Plain k) = Unit {0}
+Past c (Literal k d) = c .at ≤ d .at

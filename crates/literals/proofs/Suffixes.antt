@@ -21,7 +21,7 @@ use Rattle.cursor.specs.declared.Kinded.{Kinded}
 use Rattle.cursor.specs.declared.Kinded.the-variants.{Literal}
 use Rattle.cursor.specs.declared.Scanned.{Scanned}
 use Rattle.cursor.specs.Cursors.{rest}
-use Rattle.cursor.specs.Ran.{Ran, kindFrom}
+use Rattle.cursor.specs.Ran.{Ran, kindFrom, Past}
 use Rattle.cursor.proofs.Runs.{ran-word, ran-give, ran-bind, ran-then, ran-say, ran-texted, ran-this, ran-that, ran-bytes}
 use Rattle.literals.specs.Forms.{singleKind, doubleKind, SuffixRan, LiteralRan}
 
@@ -38,6 +38,7 @@ module _ (L : Lists) (m : Eater Body) (f : Fits 0 m) {s : List ℕ} {a b : Curso
   literal-in p q =
       let n : b .at ≡ a .at + size (take (m (rest s a) .took) (rest s a)) = ran-bytes m p (f .fits (rest s a) (omega arith)) in
       record {
+        past = subst (Past a) (sym (q .kind)) (omega arith);
         ran = λ before. ran-word
           (ran-bind (λ (y : Read Body). choose (y .said .suffixed) (identifier L) nothing >> give (kind.Literal (y .said .kind) (before + size (y .text)))) (ran-texted p) (ran-then (q .ran) (ran-give _ s (r .next))))
           (ap (kindFrom before a) (q .kind) ∙ ap (kind.Literal (x .kind)) (omega arith));

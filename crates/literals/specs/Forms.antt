@@ -13,7 +13,7 @@ use Rattle.cursor.specs.declared.Cursor.{Cursor}
 use Rattle.cursor.specs.declared.Kinded.{Kinded}
 use Rattle.cursor.specs.declared.Kinded.the-variants.{Literal}
 use Rattle.cursor.specs.declared.Scanned.{Scanned}
-use Rattle.cursor.specs.Ran.{Ran, kindFrom}
+use Rattle.cursor.specs.Ran.{Ran, kindFrom, Past}
 use Rattle.literals.specs.declared.Form.{Form}
 use Rattle.literals.specs.declared.Form.the-variants.{Plain, Byte, C}
 
@@ -39,4 +39,5 @@ pub record SuffixRan (L : Lists) (k : LiteralKind) (suffixed : Bool) (s : List �
 
 -- a literal of which any number of bytes is taken before
 pub record LiteralRan (L : Lists) (body : Eater Body) (s : List ℕ) (from : Cursor) (r : Scanned) : Type 0 where
+  pub past : Past from (r .kind)
   pub ran : (before : ℕ) → Ran (literal L before body) s from (r .next) (kindFrom before from (r .kind))

@@ -27,11 +27,11 @@ use Rattle.cursor.specs.declared.Kinded.the-variants as kinded
 use Rattle.cursor.specs.declared.Scanned.{Scanned}
 use Rattle.cursor.specs.Cursors.{rest}
 use Rattle.cursor.specs.Moved.{Moved}
-use Rattle.cursor.specs.Ran.{left, Ran, kindFrom}
+use Rattle.cursor.specs.Ran.{left, Ran, kindFrom, Past}
 use Rattle.cursor.proofs.Runs.{ran-word, ran-give, ran-bind, ran-then, ran-eat, ran-eat-2, ran-yes, ran-no, ran-take, ran-both, ran-not-both, ran-this, ran-that, ran-texted, ran-bytes}
 use Rattle.cursor.proofs.Loops.{ran-while}
-use Rattle.cursor.proofs.Bytes.{while-bytes, bump-bytes}
-use Rattle.words.specs.Lives.{Past, RestRan, rawName, afterR, RawRan, LifeRan, found, other}
+use Rattle.cursor.proofs.Bytes.{while-bytes, bump-bytes, shifted}
+use Rattle.words.specs.Lives.{RestRan, rawName, afterR, RawRan, LifeRan, found, other}
 use Rattle.words.specs.declared.Life.the-variants as life
 
 -- after the name: what the rule says of the characters t that it took
@@ -125,11 +125,6 @@ quote-second i l {s} {a} {d} f q =
 -- neither a digit nor the start of an identifier
 pub name-none : (i l : List ℕ) {s : List ℕ} {a : Cursor} {c : ℕ} {t u : Bool} → c ≡ getD (rest s a) 0 0 → t ≡ digit c → t ≡ false → u ≡ idStart i c → u ≡ false → LifeRan i l s a life.Char
 name-none i l {s} {a} {c} e g n f m = other (λ char. nothing-named i l (rest s a) c e char (sym f ∙ m) (sym g ∙ n))
-
--- the kind of a token, some bytes further on
-shifted : (k : Kinded) (n w : ℕ) (a b : Cursor) → Past b k → b .at ≡ a .at + w → kindFrom n a k ≡ kindFrom (n + w) b k
-shifted (kinded.Plain k) n w a b p e = refl
-shifted (kinded.Literal k d) n w a b p e = ap (Literal k) (omega arith)
 
 not-two : (t : Bool) (d : ℕ) → (d ≡ 0x27 → ⊥) → and t (is 'single' d) ≡ false
 not-two true d q = ne-eqb d 0x27 q

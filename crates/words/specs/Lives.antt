@@ -1,5 +1,5 @@
 -- What the scans of lifetimes promise: their rules in the book, whatever was taken before them, and whatever a quote begins otherwise.
-use Prim.Native.Nat.{ℕ, _≤_}
+use Prim.Native.Nat.{ℕ}
 use mathlib.Core.Path.{_≡_}
 use mathlib.Core.Bool.{Bool, false}
 use mathlib.Core.List.{List, []}
@@ -11,18 +11,11 @@ use Rattle.token.specs.Names.{is, '#'}
 use Rattle.token.specs.Lists.{lent, starting, going}
 use Rattle.token.specs.Lifetimes.{lifetimeRest, lifetimeOr}
 use Rattle.cursor.specs.declared.Cursor.{Cursor}
-use Rattle.cursor.specs.declared.Kinded.{Kinded}
-use Rattle.cursor.specs.declared.Kinded.the-variants.{Plain, Literal}
 use Rattle.cursor.specs.declared.Scanned.{Scanned}
 use Rattle.cursor.specs.Cursors.{rest}
-use Rattle.cursor.specs.Ran.{Ran, kindFrom}
+use Rattle.cursor.specs.Ran.{Ran, kindFrom, Past}
 use Rattle.words.specs.declared.Life.{Life}
 use Rattle.words.specs.declared.Life.the-variants.{Found, Char}
-
--- a suffix does not start before c
-abbrev pub Past : Cursor → Kinded → Type 0
-Past c (Plain k) = Unit {0}
-Past c (Literal k d) = c .at ≤ d .at
 
 -- the rest of a name, of which any number of bytes is taken before
 pub record RestRan (continues : List ℕ) (numbered : Bool) (s : List ℕ) (from : Cursor) (r : Scanned) : Type 0 where
