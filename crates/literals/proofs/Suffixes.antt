@@ -9,13 +9,17 @@ use Rattle.text.specs.Chars.{size}
 use Rattle.eaters.specs.Eat.{Eater, Read, give, nothing, _>>=_, _>>_, choose}
 use Rattle.eaters.specs.Scan.{scan}
 use Rattle.eaters.proofs.Fits.{Fits}
+use Rattle.token.specs.declared.HashCount.{HashCount}
+use Rattle.token.specs.declared.HashCount.the-variants.{Of, NoCount}
 use Rattle.token.specs.declared.LiteralKind.{LiteralKind}
 use Rattle.token.specs.declared.TokenKind.{TokenKind}
 use Rattle.token.specs.declared.TokenKind.the-variants as kind
 use Rattle.token.specs.Lists.{Lists}
 use Rattle.token.specs.Literals.{identifier, Body, literal}
 use Rattle.token.specs.Quotes.{quoted, doubleTurn, doubleQuoted, single, singleQuoted}
-use Rattle.token.proofs.Takes.{fits-single, fits-double}
+use Rattle.token.specs.Numbers.{number}
+use Rattle.token.specs.RawStrings.{rawString}
+use Rattle.token.proofs.Takes.{fits-single, fits-double, fits-raw, fits-number}
 use Rattle.cursor.specs.declared.Cursor.{Cursor}
 use Rattle.cursor.specs.declared.Kinded.{Kinded}
 use Rattle.cursor.specs.declared.Kinded.the-variants.{Literal}
@@ -23,6 +27,8 @@ use Rattle.cursor.specs.declared.Scanned.{Scanned}
 use Rattle.cursor.specs.Cursors.{rest}
 use Rattle.cursor.specs.Ran.{Ran, kindFrom, Past}
 use Rattle.cursor.proofs.Runs.{ran-word, ran-give, ran-bind, ran-then, ran-say, ran-texted, ran-this, ran-that, ran-bytes}
+use Rattle.quoted.specs.declared.RawQuoted.{RawQuoted}
+use Rattle.quoted.specs.Raws.{rawBody, RawRan}
 use Rattle.literals.specs.Forms.{singleKind, doubleKind, SuffixRan, LiteralRan}
 
 -- a suffix is read, or not
@@ -50,3 +56,14 @@ module _ (L : Lists) {s : List ℕ} {a b : Cursor} {t : Bool} {k : LiteralKind} 
 
   pub double-in : (mk : Bool → LiteralKind) → Ran (scan doubleTurn 0 1) s a b t → k ≡ mk t → SuffixRan L k t s b r → LiteralRan L (doubleQuoted mk) s a r
   double-in mk p e q = literal-in L (doubleQuoted mk) (fits-double mk) (ran-say (quoted mk) p) (subst (λ (j : LiteralKind). SuffixRan L j t s b r) e q)
+
+pub number-in : (L : Lists) (c : ℕ) {s : List ℕ} {a b : Cursor} {k : LiteralKind} {r : Scanned} → Ran (number L c) s a b (record { kind = k; suffixed = true }) → SuffixRan L k true s b r → LiteralRan L (number L c) s a r
+number-in L c p q = literal-in L (number L c) (fits-number L c) p q
+
+-- a raw string: with a count, a suffix is read
+module _ (L : Lists) (mk : HashCount → LiteralKind) {s : List ℕ} {a : Cursor} {x : RawQuoted} {k : LiteralKind} {r : Scanned} (p : RawRan s a x) (e : k ≡ mk (x .count)) where
+  pub raw-counted : {n : ℕ} → x .count ≡ Of n → SuffixRan L k true s (x .next) r → LiteralRan L (rawString mk) s a r
+  raw-counted {n} h q = literal-in L (rawString mk) (fits-raw mk) (ran-word (p .ran mk) (sym (ap (rawBody mk) h))) (subst (λ (j : LiteralKind). SuffixRan L j true s (x .next) r) (e ∙ ap mk h) q)
+
+  pub raw-uncounted : x .count ≡ NoCount → SuffixRan L k false s (x .next) r → LiteralRan L (rawString mk) s a r
+  raw-uncounted h q = literal-in L (rawString mk) (fits-raw mk) (ran-word (p .ran mk) (sym (ap (rawBody mk) h))) (subst (λ (j : LiteralKind). SuffixRan L j false s (x .next) r) (e ∙ ap mk h) q)

@@ -3,12 +3,14 @@ ghost use mathlib.Core.Path.{_≡_};
 ghost use mathlib.Core.List.{[]};
 ghost use Rattle.lists.specs.Rules.{Good};
 ghost use Rattle.token.specs.Lists.{lent};
+ghost use Rattle.token.specs.Numbers.{number};
 ghost use Rattle.token.specs.Quotes.{singleQuoted, doubleQuoted};
 ghost use Rattle.token.specs.RawStrings.{rawString};
 ghost use Rattle.literals.specs.Forms.{singleKind, doubleKind, rawKind, SuffixRan, LiteralRan};
 use cursor::Cursor;
 use cursor::Kinded;
 use cursor::Scanned;
+use text::CodePoint;
 use token::HashCount;
 use token::LiteralKind;
 
@@ -88,4 +90,30 @@ pub fn double_literal(text: &[u8], from: Cursor, form: Form, starts: &[u32], con
     let next = ended.next;
     let kind = double_kind(form, terminated);
     eat_literal_suffix(text, kind, next, terminated, starts, continues)
+}
+
+// A raw string, after its r. A suffix is read only after one with a count.
+pub fn raw_literal(text: &[u8], from: Cursor, form: Form, starts: &[u32], continues: &[u32]) -> Scanned
+    requires { ⌜ Good (now starts) × Good (now continues) ⌝ }
+    ensures { λ r. ⌜ LiteralRan (lent (now (starts .entry)) (now (continues .entry)) []) (rawString (rawKind form)) (now (text .entry)) from r ⌝ }
+{
+    let raw = quoted::raw_double_quoted_string(text, from);
+    let count = raw.count;
+    let next = raw.next;
+    let kind = raw_kind(form, count);
+    match count {
+        HashCount::Of(_) => eat_literal_suffix(text, kind, next, true, starts, continues),
+        HashCount::NoCount => eat_literal_suffix(text, kind, next, false, starts, continues),
+    }
+}
+
+// A number, after its first digit. A suffix may follow every number.
+pub fn number_literal(text: &[u8], from: Cursor, first: CodePoint, starts: &[u32], continues: &[u32]) -> Scanned
+    requires { ⌜ Good (now starts) × Good (now continues) ⌝ }
+    ensures { λ r. ⌜ LiteralRan (lent (now (starts .entry)) (now (continues .entry)) []) (number (lent (now (starts .entry)) [] []) first) (now (text .entry)) from r ⌝ }
+{
+    let numeral = number::number(text, from, first, starts);
+    let kind = numeral.kind;
+    let next = numeral.next;
+    eat_literal_suffix(text, kind, next, true, starts, continues)
 }
