@@ -45,3 +45,8 @@ bump-bytes {s} {b} {d} {x} e h m =
 pub shifted : (k : Kinded) (n w : ℕ) (a b : Cursor) → Past b k → b .at ≡ a .at + w → kindFrom n a k ≡ kindFrom (n + w) b k
 shifted (Plain k) n w a b p e = refl
 shifted (Literal k d) n w a b p e = ap (kind.Literal k) (omega arith)
+
+-- a suffix that does not start before b does not start before a, whence the cursor came
+pub past-moved : (k : Kinded) {s cs : List ℕ} {a b : Cursor} → Past b k → Moved s a b cs → Past a k
+past-moved (Plain k) p m = tt
+past-moved (Literal k d) {a = a} {b} p m = omega (arith, p, passed m .bytes)

@@ -30,7 +30,7 @@ use Rattle.cursor.specs.Moved.{Moved}
 use Rattle.cursor.specs.Ran.{left, Ran, kindFrom, Past}
 use Rattle.cursor.proofs.Runs.{ran-word, ran-give, ran-bind, ran-then, ran-eat, ran-eat-2, ran-yes, ran-no, ran-take, ran-both, ran-not-both, ran-this, ran-that, ran-texted, ran-bytes}
 use Rattle.cursor.proofs.Loops.{ran-while}
-use Rattle.cursor.proofs.Bytes.{while-bytes, bump-bytes, shifted}
+use Rattle.cursor.proofs.Bytes.{while-bytes, bump-bytes, shifted, past-moved}
 use Rattle.words.specs.Lives.{RestRan, rawName, afterR, RawRan, LifeRan, found, other}
 use Rattle.words.specs.declared.Life.the-variants as life
 
@@ -141,7 +141,7 @@ module _ (i l : List ℕ) {s : List ℕ} {a : Cursor} {c d : ℕ} (f : d ≡ get
   found-r {b} {r} h m g =
       let w : width c ≡ 1 = ap width h in
       let n : b .at ≡ a .at + 1 = bump-bytes e (omega arith) m ∙ ap (λ (k : ℕ). a .at + k) w in
-      found (λ char. past-two char (ran-take (afterR i l) _ (is 'r') e (rw h) m (ran-word (g .ran) (shifted (r .kind) 1 1 a b (g .past) n))))
+      found (past-moved (r .kind) (g .past) m) (λ char. past-two char (ran-take (afterR i l) _ (is 'r') e (rw h) m (ran-word (g .ran) (shifted (r .kind) 1 1 a b (g .past) n))))
 
   -- a name, from its first character on
   named-on : {b : Cursor} {r : Scanned} (t : Bool) → 1 ≤ length (rest s a) → Moved s a b (drop 1 (rest s a)) → RestRan l t s b r → Ran (lifetime (lent i l []) t) s a (r .next) (kindFrom 1 a (r .kind))
@@ -153,11 +153,11 @@ module _ (i l : List ℕ) {s : List ℕ} {a : Cursor} {c d : ℕ} (f : d ≡ get
 
   module _ (z : c ≡ 0x72 → ⊥) {t : Bool} (g : t ≡ digit c) where
     pub found-digit : {b : Cursor} {r : Scanned} → t ≡ true → Moved s a b (drop 1 (rest s a)) → RestRan l true s b r → LifeRan i l s a (life.Found r)
-    found-digit h m r =
+    found-digit {r = y} h m r =
         let o : 1 ≤ length (rest s a) = there digit refl (rest s a) 0 (ap digit (sym e) ∙ sym g ∙ h) in
-        found (λ char. past-two char (ran-no _ _ (is 'r') e (ne-eqb c 0x72 z) (ran-yes (lifetime (lent i l []) true) _ digit e (sym g ∙ h) (named-on true o m r))))
+        found (past-moved (y .kind) (r .past) m) (λ char. past-two char (ran-no _ _ (is 'r') e (ne-eqb c 0x72 z) (ran-yes (lifetime (lent i l []) true) _ digit e (sym g ∙ h) (named-on true o m r))))
 
     pub found-name : {b : Cursor} {r : Scanned} {u : Bool} → t ≡ false → u ≡ idStart i c → u ≡ true → Moved s a b (drop 1 (rest s a)) → RestRan l false s b r → LifeRan i l s a (life.Found r)
-    found-name h k v m r =
+    found-name {r = y} h k v m r =
         let o : 1 ≤ length (rest s a) = there (starting (lent i l [])) (unfold idStart letter in refl) (rest s a) 0 (ap (idStart i) (sym e) ∙ sym k ∙ v) in
-        found (λ char. past-two char (ran-no _ _ (is 'r') e (ne-eqb c 0x72 z) (ran-no _ _ digit e (sym g ∙ h) (ran-yes (lifetime (lent i l []) false) char (starting (lent i l [])) e (sym k ∙ v) (named-on false o m r)))))
+        found (past-moved (y .kind) (r .past) m) (λ char. past-two char (ran-no _ _ (is 'r') e (ne-eqb c 0x72 z) (ran-no _ _ digit e (sym g ∙ h) (ran-yes (lifetime (lent i l []) false) char (starting (lent i l [])) e (sym k ∙ v) (named-on false o m r)))))

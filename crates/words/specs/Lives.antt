@@ -38,5 +38,5 @@ pub record RawRan (starts continues s : List ℕ) (from : Cursor) (r : Scanned) 
 
 -- a lifetime was found, whatever a quote begins otherwise; or that is what it begins
 pub data LifeRan (starts continues s : List ℕ) (from : Cursor) : Life → Type 0 where
-  found : {r : Scanned} → ((char : Eater TokenKind) → Ran (lifetimeOr (lent starts continues []) char) s from (r .next) (kindFrom 1 from (r .kind))) → LifeRan starts continues s from (Found r)
+  found : {r : Scanned} → Past from (r .kind) → ((char : Eater TokenKind) → Ran (lifetimeOr (lent starts continues []) char) s from (r .next) (kindFrom 1 from (r .kind))) → LifeRan starts continues s from (Found r)
   other : ((char : Eater TokenKind) → lifetimeOr (lent starts continues []) char (rest s from) ≡ char (rest s from)) → LifeRan starts continues s from Char
