@@ -46,8 +46,8 @@ module _ (L : Lists) (m : Eater Body) (f : Fits 0 m) {s : List ℕ} {a b : Curso
       record {
         past = subst (Past a) (sym (q .kind)) (omega arith);
         ran = λ before. ran-word
-          (ran-bind (λ (y : Read Body). choose (y .said .suffixed) (identifier L) nothing >> give (kind.Literal (y .said .kind) (before + size (y .text)))) (ran-texted p) (ran-then (q .ran) (ran-give _ s (r .next))))
-          (ap (kindFrom before a) (q .kind) ∙ ap (kind.Literal (x .kind)) (omega arith));
+            (ran-bind (λ (y : Read Body). choose (y .said .suffixed) (identifier L) nothing >> give (kind.Literal (y .said .kind) (before + size (y .text)))) (ran-texted p) (ran-then (q .ran) (ran-give _ s (r .next))))
+            (ap (kindFrom before a) (q .kind) ∙ ap (kind.Literal (x .kind)) (omega arith));
       }
 
 module _ (L : Lists) {s : List ℕ} {a b : Cursor} {t : Bool} {k : LiteralKind} {r : Scanned} where

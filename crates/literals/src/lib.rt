@@ -52,7 +52,14 @@ fn raw_kind(form: Form, n_hashes: HashCount) -> LiteralKind
 }
 
 // The suffix of a literal whose body ends at `at`, if one is read.
-pub fn eat_literal_suffix(text: &[u8], kind: LiteralKind, at: Cursor, suffixed: bool, starts: &[u32], continues: &[u32]) -> Scanned
+pub fn eat_literal_suffix(
+    text: &[u8],
+    kind: LiteralKind,
+    at: Cursor,
+    suffixed: bool,
+    starts: &[u32],
+    continues: &[u32],
+) -> Scanned
     requires { ⌜ Good (now starts) × Good (now continues) ⌝ }
     ensures { λ r. ⌜ SuffixRan (lent (now (starts .entry)) (now (continues .entry)) []) kind suffixed (now (text .entry)) at r ⌝ }
 {
@@ -69,7 +76,13 @@ pub fn eat_literal_suffix(text: &[u8], kind: LiteralKind, at: Cursor, suffixed: 
 }
 
 // A single-quoted literal, after its quote.
-pub fn single_literal(text: &[u8], from: Cursor, byte: bool, starts: &[u32], continues: &[u32]) -> Scanned
+pub fn single_literal(
+    text: &[u8],
+    from: Cursor,
+    byte: bool,
+    starts: &[u32],
+    continues: &[u32],
+) -> Scanned
     requires { ⌜ Good (now starts) × Good (now continues) ⌝ }
     ensures { λ r. ⌜ LiteralRan (lent (now (starts .entry)) (now (continues .entry)) []) (singleQuoted (singleKind byte)) (now (text .entry)) from r ⌝ }
 {
@@ -81,7 +94,13 @@ pub fn single_literal(text: &[u8], from: Cursor, byte: bool, starts: &[u32], con
 }
 
 // A double-quoted literal, after its quote.
-pub fn double_literal(text: &[u8], from: Cursor, form: Form, starts: &[u32], continues: &[u32]) -> Scanned
+pub fn double_literal(
+    text: &[u8],
+    from: Cursor,
+    form: Form,
+    starts: &[u32],
+    continues: &[u32],
+) -> Scanned
     requires { ⌜ Good (now starts) × Good (now continues) ⌝ }
     ensures { λ r. ⌜ LiteralRan (lent (now (starts .entry)) (now (continues .entry)) []) (doubleQuoted (doubleKind form)) (now (text .entry)) from r ⌝ }
 {
@@ -93,7 +112,13 @@ pub fn double_literal(text: &[u8], from: Cursor, form: Form, starts: &[u32], con
 }
 
 // A raw string, after its r. A suffix is read only after one with a count.
-pub fn raw_literal(text: &[u8], from: Cursor, form: Form, starts: &[u32], continues: &[u32]) -> Scanned
+pub fn raw_literal(
+    text: &[u8],
+    from: Cursor,
+    form: Form,
+    starts: &[u32],
+    continues: &[u32],
+) -> Scanned
     requires { ⌜ Good (now starts) × Good (now continues) ⌝ }
     ensures { λ r. ⌜ LiteralRan (lent (now (starts .entry)) (now (continues .entry)) []) (rawString (rawKind form)) (now (text .entry)) from r ⌝ }
 {
@@ -108,7 +133,13 @@ pub fn raw_literal(text: &[u8], from: Cursor, form: Form, starts: &[u32], contin
 }
 
 // A number, after its first digit. A suffix may follow every number.
-pub fn number_literal(text: &[u8], from: Cursor, first: CodePoint, starts: &[u32], continues: &[u32]) -> Scanned
+pub fn number_literal(
+    text: &[u8],
+    from: Cursor,
+    first: CodePoint,
+    starts: &[u32],
+    continues: &[u32],
+) -> Scanned
     requires { ⌜ Good (now starts) × Good (now continues) ⌝ }
     ensures { λ r. ⌜ LiteralRan (lent (now (starts .entry)) (now (continues .entry)) []) (number (lent (now (starts .entry)) [] []) first) (now (text .entry)) from r ⌝ }
 {

@@ -66,10 +66,6 @@ second-tells c k {t} {u} e f = f ∙ ap (λ (x : Bool). and x u) (sym (eq-eqb c 
 pub first-tells : (c k : ℕ) (u : Bool) → (c ≡ k → ⊥) → false ≡ and (eqb c k) u
 first-tells c k u n = rw (ne-eqb c k n)
 
--- A WORD
-pub word-in : (l m : List ℕ) {s : List ℕ} {a d : Cursor} {k : TokenKind} → Ran (identOrUnknownPrefix (lent [] l m)) s a d k → Begun (identOrUnknownPrefix (lent [] l m)) s a (record { kind = kinded.Plain k; next = d })
-word-in l m r = record { past = tt; ran = r }
-
 -- A LITERAL AFTER ONE MORE CHARACTER of one byte
 module _ (L : Lists) (body : Eater Body) {s : List ℕ} {a b : Cursor} {c : ℕ} {r : Scanned} (e : c ≡ getD (rest s a) 0 0) (m : Moved s a b (drop 1 (rest s a))) (q : LiteralRan L body s b r) where
   on : 0 < c → width c ≡ 1 → Ran (literal L 2 body) s b (r .next) (kindFrom 1 a (r .kind))

@@ -75,7 +75,13 @@ fn word(text: &[u8], from: Cursor, continues: &[u32], emoji: &[u32]) -> Scanned
 }
 
 // What the letter r begins: a raw identifier, a raw string or a word.
-pub fn after_r(text: &[u8], from: Cursor, starts: &[u32], continues: &[u32], emoji: &[u32]) -> Scanned
+pub fn after_r(
+    text: &[u8],
+    from: Cursor,
+    starts: &[u32],
+    continues: &[u32],
+    emoji: &[u32],
+) -> Scanned
     requires { ⌜ Good (now starts) × Good (now continues) × Good (now emoji) ⌝ }
     ensures { λ r. ⌜ Begun (afterR (lent (now (starts .entry)) (now (continues .entry)) (now (emoji .entry)))) (now (text .entry)) from r ⌝ }
 {
@@ -94,7 +100,14 @@ pub fn after_r(text: &[u8], from: Cursor, starts: &[u32], continues: &[u32], emo
 }
 
 // What the letter c begins, and b but for a byte: a string, a raw string or a word. 000 has c_or_byte_string.
-pub fn after_c(text: &[u8], from: Cursor, form: Form, starts: &[u32], continues: &[u32], emoji: &[u32]) -> Scanned
+pub fn after_c(
+    text: &[u8],
+    from: Cursor,
+    form: Form,
+    starts: &[u32],
+    continues: &[u32],
+    emoji: &[u32],
+) -> Scanned
     requires { ⌜ Good (now starts) × Good (now continues) × Good (now emoji) ⌝ }
     ensures { λ r. ⌜ Begun (afterC (lent (now (starts .entry)) (now (continues .entry)) (now (emoji .entry))) (doubleKind form) (rawKind form)) (now (text .entry)) from r ⌝ }
 {
@@ -110,7 +123,13 @@ pub fn after_c(text: &[u8], from: Cursor, form: Form, starts: &[u32], continues:
 }
 
 // What the letter b begins: a byte, or what c begins, of bytes.
-pub fn after_b(text: &[u8], from: Cursor, starts: &[u32], continues: &[u32], emoji: &[u32]) -> Scanned
+pub fn after_b(
+    text: &[u8],
+    from: Cursor,
+    starts: &[u32],
+    continues: &[u32],
+    emoji: &[u32],
+) -> Scanned
     requires { ⌜ Good (now starts) × Good (now continues) × Good (now emoji) ⌝ }
     ensures { λ r. ⌜ Begun (afterB (lent (now (starts .entry)) (now (continues .entry)) (now (emoji .entry)))) (now (text .entry)) from r ⌝ }
 {

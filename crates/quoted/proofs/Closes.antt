@@ -64,6 +64,7 @@ over-hashes n (suc m) (c ∷ cs) = go (eqb c 0x23) refl (over-hashes n m cs)
   where
     hash : c ≡ 0x23 → F n (c ∷ cs) ≡ after (F n cs)
     hash e = step-other n c cs (λ q. omega (arith, e, q))
+
     go : (t : Bool) → eqb c 0x23 ≡ t → Same n cs (leftMost m cs) → Same n (c ∷ cs) (drop (length (pick t (c ∷ takeMost m (is '#') cs) [])) (c ∷ cs))
     go true e h = let q = hash (eqb-true c 0x23 e) in (ap (λ (r : Got Bool). drop (r .took) (c ∷ cs)) q ∙ h .0, ap (λ (r : Got Bool). r .said) q ∙ h .1)
     go false e h = (refl, refl)

@@ -58,7 +58,7 @@ module _ {s : List ℕ} {a : Cursor} {h : Hashes} (g : Counted s a h) {c : ℕ} 
     body : (kind : HashCount → LiteralKind) → Ran (rawString kind) s a d (closing kind (h .count) t)
     body kind =
         hashes kind (subst (λ (n : ℕ). Ran (ifEat (is 'double') (inner kind n) (eatAny >> give (uncounted kind))) s (h .next) d (closing kind (h .count) t)) (g .count)
-          (ran-take (inner kind (h .count)) _ (is 'double') e (rw q) m (ran-say (closing kind (h .count)) r)))
+        (ran-take (inner kind (h .count)) _ (is 'double') e (rw q) m (ran-say (closing kind (h .count)) r)))
 
     pub no-end : t ≡ false → RawRan s a (record { next = d; count = NoCount })
     no-end z = record { ran = λ kind. ran-word (body kind) (sym (rw z)) }

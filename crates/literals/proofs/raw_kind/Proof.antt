@@ -1,31 +1,24 @@
+-- `literals::raw_kind` meets its contract. By the form (Shapes).
 use Rattle.literals.proofs.Shapes.{raw-plain, raw-byte, raw-c}
 use borrow.Author.Needs.{needs}
 use Rattle.literals.proofs.raw_kind.Statement.{statement}
 use Rattle.literals.proofs.raw_kind.Tie as tie
-use Rattle.literals.proofs.raw_kind.Reads as reads
-use Rattle.literals.proofs.raw_kind.Lts as lts
 
--- src/lib.rt:46:24
 enum-told : tie.Need-enum-told
 enum-told c = search needs
 
--- src/lib.rt:47:23
 enum-told-2 : tie.Need-enum-told-2
 enum-told-2 c = search needs
 
--- src/lib.rt:48:20
 enum-told-3 : tie.Need-enum-told-3
 enum-told-3 c = search needs
 
--- src/lib.rt:42:1
 returns : tie.Need-returns
 returns c = search raw-plain
 
--- src/lib.rt:42:1
 returns-2 : tie.Need-returns-2
 returns-2 c = search raw-byte
 
--- src/lib.rt:42:1
 returns-3 : tie.Need-returns-3
 returns-3 c = search raw-c
 

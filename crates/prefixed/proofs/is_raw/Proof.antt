@@ -1,20 +1,15 @@
+-- `prefixed::is_raw` meets its contract. The first test is made, and then the second (Rules).
 use Rattle.prefixed.proofs.Rules.{second-tells, first-tells}
 use borrow.Author.Needs.{needs}
 use Rattle.prefixed.proofs.is_raw.Statement.{statement}
 use Rattle.prefixed.proofs.is_raw.Tie as tie
-use Rattle.prefixed.proofs.is_raw.Reads as reads
-use Rattle.prefixed.proofs.is_raw.Lts as lts
-use Rattle.prefixed.proofs.is_hash_or_quote.Reads as is-hash-or-quote-reads
 
--- src/lib.rt:58:9
 is-hash-or-quote-requires : tie.Need-is-hash-or-quote-requires
 is-hash-or-quote-requires c κs = search needs
 
--- src/lib.rt:58:9
 returns : tie.Need-returns
 returns c = search second-tells
 
--- src/lib.rt:54:1
 returns-2 : tie.Need-returns-2
 returns-2 c = search first-tells
 

@@ -1,3 +1,4 @@
+-- `quoted::double_quoted_string` meets its contract. `Inside`: the turns so far say what the turns from the start say (Quotes).
 use Rattle.quoted.proofs.Quotes.{over-in, double-close, double-other, double-back, double-escaped, double-lone}
 use Rattle.cursor.proofs.Moves.{fewer-1, fewer-2}
 use Rattle.cursor.proofs.Loops.{Inside, inside-start}
@@ -7,11 +8,6 @@ use lib.ListN.{length}
 use borrow.Author.Needs.{needs}
 use Rattle.quoted.proofs.double_quoted_string.Statement.{statement}
 use Rattle.quoted.proofs.double_quoted_string.Tie as tie
-use Rattle.quoted.proofs.double_quoted_string.Reads as reads
-use Rattle.quoted.proofs.double_quoted_string.Lts as lts
-use Rattle.cursor.proofs.Cursor.bump.Reads as bump-reads
-use Rattle.cursor.proofs.Cursor.first.Reads as first-reads
-use Rattle.cursor.proofs.Cursor.peek.Reads as peek-reads
 
 abbrev Inv-loop : tie.InvT-loop
 Inv-loop text cur₀ cur = Inside doubleTurn text cur₀ cur 1
@@ -19,71 +15,54 @@ Inv-loop text cur₀ cur = Inside doubleTurn text cur₀ cur 1
 abbrev μ-loop : tie.MeasureT-loop
 μ-loop text cur₀ cur = length (rest text cur)
 
--- src/lib.rt:15:5
 loop-holds : tie.Need-loop-holds Inv-loop μ-loop
 loop-holds c = inside-start _ _ _
 
--- src/lib.rt:16:34
 peek-requires : tie.Need-peek-requires Inv-loop μ-loop
 peek-requires c κs = search needs
 
--- src/lib.rt:16:23
 enum-known-c : tie.Need-enum-known-c Inv-loop μ-loop
 enum-known-c c = search needs
 
--- src/lib.rt:17:13
 enum-told : tie.Need-enum-told Inv-loop μ-loop
 enum-told c = search needs
 
--- src/lib.rt:17:13
 returns : tie.Need-returns Inv-loop μ-loop
 returns c = search over-in
 
--- src/lib.rt:23:13
 returns-2 : tie.Need-returns-2 Inv-loop μ-loop
 returns-2 c = search double-close
 
--- src/lib.rt:30:17
 first-requires : tie.Need-first-requires Inv-loop μ-loop
 first-requires c κs = search needs
 
--- src/lib.rt:32:17
 bump-requires : tie.Need-bump-requires Inv-loop μ-loop
 bump-requires c κs = search needs
 
--- src/lib.rt:15:5
 loop-less : tie.Need-loop-less Inv-loop μ-loop
 loop-less c = search fewer-2
 
--- src/lib.rt:15:5
 loop-again : tie.Need-loop-again Inv-loop μ-loop
 loop-again c = search double-back
 
--- src/lib.rt:34:17
 bump-requires-2 : tie.Need-bump-requires-2 Inv-loop μ-loop
 bump-requires-2 c κs = search needs
 
--- src/lib.rt:15:5
 loop-less-2 : tie.Need-loop-less-2 Inv-loop μ-loop
 loop-less-2 c = search fewer-2
 
--- src/lib.rt:15:5
 loop-again-2 : tie.Need-loop-again-2 Inv-loop μ-loop
 loop-again-2 c = search double-escaped
 
--- src/lib.rt:15:5
 loop-less-3 : tie.Need-loop-less-3 Inv-loop μ-loop
 loop-less-3 c = search fewer-1
 
--- src/lib.rt:15:5
 loop-again-3 : tie.Need-loop-again-3 Inv-loop μ-loop
 loop-again-3 c = search double-lone
 
--- src/lib.rt:15:5
 loop-less-4 : tie.Need-loop-less-4 Inv-loop μ-loop
 loop-less-4 c = search fewer-1
 
--- src/lib.rt:15:5
 loop-again-4 : tie.Need-loop-again-4 Inv-loop μ-loop
 loop-again-4 c = search double-other
 

@@ -1,3 +1,4 @@
+-- `quoted::eat_hashes` meets its contract. `Counting`: the hashes so far, and their number (Pounds).
 use Rattle.quoted.proofs.Pounds.{Counting, counting-none, counting-fits, counting-on, counted-off, counted-over}
 use Rattle.cursor.proofs.Moves.{fewer-1}
 use Rattle.cursor.specs.Cursors.{rest}
@@ -5,9 +6,6 @@ use lib.ListN.{length}
 use borrow.Author.Needs.{needs}
 use Rattle.quoted.proofs.eat_hashes.Statement.{statement}
 use Rattle.quoted.proofs.eat_hashes.Tie as tie
-use Rattle.quoted.proofs.eat_hashes.Reads as reads
-use Rattle.quoted.proofs.eat_hashes.Lts as lts
-use Rattle.cursor.proofs.Cursor.peek.Reads as peek-reads
 
 abbrev Inv-loop : tie.InvT-loop
 Inv-loop text cur₀ count₀ cur count = Counting text cur₀ cur count
@@ -15,39 +13,30 @@ Inv-loop text cur₀ count₀ cur count = Counting text cur₀ cur count
 abbrev μ-loop : tie.MeasureT-loop
 μ-loop text cur₀ count₀ cur count = length (rest text cur)
 
--- src/lib.rt:112:5
 loop-holds : tie.Need-loop-holds Inv-loop μ-loop
 loop-holds c = counting-none _ _
 
--- src/lib.rt:113:15
 peek-requires : tie.Need-peek-requires Inv-loop μ-loop
 peek-requires c κs = search needs
 
--- src/lib.rt:114:23
 enum-known-c : tie.Need-enum-known-c Inv-loop μ-loop
 enum-known-c c = search needs
 
--- src/lib.rt:116:21
 returns : tie.Need-returns Inv-loop μ-loop
 returns c = search counted-off
 
--- src/lib.rt:119:17
 add-count : tie.Need-add-count Inv-loop μ-loop
 add-count c = search counting-fits
 
--- src/lib.rt:112:5
 loop-less : tie.Need-loop-less Inv-loop μ-loop
 loop-less c = search fewer-1
 
--- src/lib.rt:112:5
 loop-again : tie.Need-loop-again Inv-loop μ-loop
 loop-again c = search counting-on
 
--- src/lib.rt:121:27
 enum-told : tie.Need-enum-told Inv-loop μ-loop
 enum-told c = search needs
 
--- src/lib.rt:121:27
 returns-2 : tie.Need-returns-2 Inv-loop μ-loop
 returns-2 c = search counted-over
 

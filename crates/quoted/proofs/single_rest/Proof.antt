@@ -1,3 +1,4 @@
+-- `quoted::single_rest` meets its contract. `Inside`: the turns so far say what the turns from the start say; each turn takes a character or more (Quotes).
 use Rattle.quoted.proofs.Quotes.{over-in, single-close, single-slash, single-stops, single-newline, single-escape, single-other}
 use Rattle.cursor.proofs.Moves.{fewer-1, fewer-2}
 use Rattle.cursor.proofs.Loops.{Inside, inside-start}
@@ -7,11 +8,6 @@ use lib.ListN.{length}
 use borrow.Author.Needs.{needs}
 use Rattle.quoted.proofs.single_rest.Statement.{statement}
 use Rattle.quoted.proofs.single_rest.Tie as tie
-use Rattle.quoted.proofs.single_rest.Reads as reads
-use Rattle.quoted.proofs.single_rest.Lts as lts
-use Rattle.cursor.proofs.Cursor.bump.Reads as bump-reads
-use Rattle.cursor.proofs.Cursor.peek.Reads as peek-reads
-use Rattle.cursor.proofs.Cursor.second.Reads as second-reads
 
 abbrev Inv-loop : tie.InvT-loop
 Inv-loop text cur₀ cur = Inside singleTurn text cur₀ cur 1
@@ -19,67 +15,51 @@ Inv-loop text cur₀ cur = Inside singleTurn text cur₀ cur 1
 abbrev μ-loop : tie.MeasureT-loop
 μ-loop text cur₀ cur = length (rest text cur)
 
--- src/lib.rt:46:9
 loop-holds : tie.Need-loop-holds Inv-loop μ-loop
 loop-holds c = inside-start _ _ _
 
--- src/lib.rt:47:34
 peek-requires : tie.Need-peek-requires Inv-loop μ-loop
 peek-requires c κs = search needs
 
--- src/lib.rt:47:23
 enum-known-c : tie.Need-enum-known-c Inv-loop μ-loop
 enum-known-c c = search needs
 
--- src/lib.rt:48:19
 enum-told : tie.Need-enum-told Inv-loop μ-loop
 enum-told c = search needs
 
--- src/lib.rt:59:20
 second-requires : tie.Need-second-requires Inv-loop μ-loop
 second-requires c κs = search needs
 
--- src/lib.rt:46:9
 loop-less : tie.Need-loop-less Inv-loop μ-loop
 loop-less c = search fewer-1
 
--- src/lib.rt:46:9
 loop-again : tie.Need-loop-again Inv-loop μ-loop
 loop-again c = search single-newline
 
--- src/lib.rt:65:17
 bump-requires : tie.Need-bump-requires Inv-loop μ-loop
 bump-requires c κs = search needs
 
--- src/lib.rt:46:9
 loop-less-2 : tie.Need-loop-less-2 Inv-loop μ-loop
 loop-less-2 c = search fewer-2
 
--- src/lib.rt:46:9
 loop-again-2 : tie.Need-loop-again-2 Inv-loop μ-loop
 loop-again-2 c = search single-escape
 
--- src/lib.rt:46:9
 loop-less-3 : tie.Need-loop-less-3 Inv-loop μ-loop
 loop-less-3 c = search fewer-1
 
--- src/lib.rt:46:9
 loop-again-3 : tie.Need-loop-again-3 Inv-loop μ-loop
 loop-again-3 c = search single-other
 
--- src/lib.rt:42:1
 returns : tie.Need-returns Inv-loop μ-loop
 returns c = search over-in
 
--- src/lib.rt:42:1
 returns-2 : tie.Need-returns-2 Inv-loop μ-loop
 returns-2 c = search single-close
 
--- src/lib.rt:42:1
 returns-3 : tie.Need-returns-3 Inv-loop μ-loop
 returns-3 c = search single-slash
 
--- src/lib.rt:42:1
 returns-4 : tie.Need-returns-4 Inv-loop μ-loop
 returns-4 c = search single-stops
 
