@@ -3,10 +3,10 @@ use Prim.Native.Nat.{ℕ, _≤_, _<_}
 use mathlib.Core.Path.{_≡_, refl}
 use mathlib.Core.Bool.{Bool, true, false}
 use mathlib.Core.Logic.{_⊎_, inl, inr}
-use borrow.Author.Tests.{ltb-true, ltb-false, leb-true, leb-false, le-leb, lt-leb}
+use borrow.Author.Tests.{ltb-true, ltb-false, leb-true, le-leb, lt-leb}
 use lib.Dec.{ltb, leb}
 use native.Mathlib.Omega.{arith}
-use Rattle.basics.specs.Choice.{pick, and, or}
+use Rattle.basics.specs.Choice.{pick, and}
 use Rattle.basics.specs.Tests.{within}
 
 -- m is below n or not

@@ -1,9 +1,9 @@
 -- Identifiers, one character at a time.
-use Prim.Native.Nat.{ℕ, _+_, _-_, _≤_, _<_}
+use Prim.Native.Nat.{ℕ, _+_}
 use mathlib.Core.Path.{_≡_, refl, sym, ap, _∙_}
-use mathlib.Core.List.{List, [], _∷_}
+use mathlib.Core.List.{List}
 use mathlib.Core.Bool.{Bool, true, false}
-use lib.ListN.{length, drop}
+use lib.ListN.{drop}
 use Rattle.basics.specs.Choice.{and}
 use Rattle.basics.specs.Tests.{all}
 use Rattle.basics.proofs.Sums.{zero-plus}
@@ -11,7 +11,7 @@ use Rattle.text.specs.declared.Decoded.{Decoded}
 use Rattle.text.specs.declared.Decoded.the-variants.{Char, End, Ill}
 use Rattle.text.specs.Utf8.{decoded}
 use Rattle.text.specs.Chars.{chars}
-use Rattle.text.proofs.Places.{char-room, char-less, char-chars, end-chars, ill-chars}
+use Rattle.text.proofs.Places.{char-chars, end-chars, ill-chars}
 use Rattle.classes.specs.Identifiers.{idStart, idContinue, isIdent}
 
 -- the answer from `at` on is the answer from `from` on

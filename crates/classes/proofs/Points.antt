@@ -1,14 +1,13 @@
 -- Single points and ranges: what the tests of the code say of the definitions.
 use Prim.Native.Nat.{ℕ, _+_, _≤_, _<_}
 use mathlib.Core.Path.{_≡_, refl, sym, ap, _∙_}
-use mathlib.Core.List.{List, [], _∷_}
+use mathlib.Core.List.{List}
 use mathlib.Core.Bool.{Bool, true, false}
 use mathlib.Core.Logic.{_⊎_, inl, inr, ⊎-elim}
 use borrow.Author.Tests.{ne-eqb, eq-eqb, lt-ltb, le-ltb}
-use lib.Dec.{eqb}
 use native.Mathlib.Omega.{arith}
-use Rattle.basics.specs.Choice.{pick, and, or}
-use Rattle.basics.specs.Tests.{within, isIn}
+use Rattle.basics.specs.Choice.{pick, or}
+use Rattle.basics.specs.Tests.{within}
 use Rattle.basics.proofs.Choices.{below-or-not, inside-within, under-within, over-within}
 use Rattle.lists.specs.Search.{inPairs}
 use Rattle.classes.specs.Whitespace.{isWhitespace, isHorizontalWhitespace}

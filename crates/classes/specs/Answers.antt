@@ -1,7 +1,7 @@
 -- What the class calls and is_ident answer, refusals included (document 01, "When the build says no"). `limit` is the most pairs of a list.
 use Prim.Native.Nat.{ℕ}
 use mathlib.Core.List.{List}
-use mathlib.Core.Bool.{Bool, true, false}
+use mathlib.Core.Bool.{Bool}
 use Rattle.basics.specs.Choice.{pick}
 use Rattle.refusal.specs.declared.Numbers.{Numbers}
 use Rattle.refusal.specs.declared.Verdict.{Verdict}

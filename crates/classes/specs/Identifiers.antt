@@ -2,7 +2,7 @@
 -- letter or `_`, and digits go on in one; from 0x80 on the lent lists say so.
 use Prim.Native.Nat.{ℕ}
 use mathlib.Core.List.{List, [], _∷_}
-use mathlib.Core.Bool.{Bool, true, false}
+use mathlib.Core.Bool.{Bool, false}
 use lib.Dec.{ltb, eqb}
 use Rattle.basics.specs.Choice.{pick, and, or}
 use Rattle.basics.specs.Tests.{within, all}

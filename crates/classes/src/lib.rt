@@ -10,7 +10,7 @@ ghost use Rattle.lists.specs.Rules.{Good};
 ghost use Rattle.classes.specs.Whitespace.{isWhitespace, isHorizontalWhitespace};
 ghost use Rattle.classes.specs.Identifiers.{idStart, idContinue, isIdent};
 ghost use Rattle.classes.specs.Emoji.{emojiChar};
-ghost use Rattle.classes.specs.Answers.{answerOf, answerNumbers, idStartAnswer, idContinueAnswer, emojiAnswer, identVerdict, identAnswer};
+ghost use Rattle.classes.specs.Answers.{answerNumbers, idStartAnswer, idContinueAnswer, emojiAnswer, identVerdict, identAnswer};
 use refusal::Bad;
 use refusal::Numbers;
 use refusal::Verdict;

@@ -1,27 +1,25 @@
 -- The search for the end of a block comment, in the facts of the code.
-use Prim.Native.Nat.{ℕ, zero, suc, pred, _+_, _-_, _*_, _^_, _≤_, _<_, zero-le, suc-le-suc}
+use Prim.Native.Nat.{ℕ, zero, suc, pred, _+_, _-_, _*_, _^_, _≤_, _<_}
 use mathlib.Core.Path.{_≡_, refl, sym, ap, subst, _∙_}
 use mathlib.Core.Bool.{Bool, true, false}
-use mathlib.Core.List.{List, [], _∷_}
-use mathlib.Core.Logic.{_⊎_, inl, inr}
+use mathlib.Core.List.{List, []}
 use mir.Val.{Fits}
 use mir.Syntax.{w64}
 use lib.Dec.{eqb}
-use lib.ListN.{length, getD, drop, length-drop}
+use lib.ListN.{length, getD, drop}
 use native.Mathlib.Omega.{arith}
-use borrow.Author.Tests.{eqb-true, ne-eqb}
+use borrow.Author.Tests.{eqb-true}
 use Rattle.basics.specs.Choice.{pick, and}
-use Rattle.eaters.specs.Eat.{Got}
-use Rattle.eaters.specs.Scan.{after, Turn, on, off, turned, scan}
+use Rattle.eaters.specs.Scan.{on, scan}
 use Rattle.token.specs.Names.{is, '*', '/'}
 use Rattle.token.specs.Comments.{blockTurn}
 use Rattle.cursor.specs.declared.Cursor.{Cursor}
 use Rattle.cursor.specs.declared.Step.{Step}
 use Rattle.cursor.specs.declared.Step.the-variants.{Got as Char, Over}
 use Rattle.cursor.specs.Cursors.{rest, Here, Seen}
-use Rattle.cursor.specs.Moved.{Moved, no-more}
-use Rattle.cursor.specs.Ran.{left, Ran}
-use Rattle.cursor.proofs.Moves.{char-at, end-at, bumped, fewer-1, fewer-2}
+use Rattle.cursor.specs.Moved.{Moved}
+use Rattle.cursor.specs.Ran.{Ran}
+use Rattle.cursor.proofs.Moves.{char-at, end-at, bumped}
 use Rattle.cursor.proofs.Steps.{rest-short}
 use Rattle.cursor.proofs.Loops.{Inside, inside-start, inside-on, inside-skip, inside-past, inside-over, inside-found}
 

@@ -1,14 +1,14 @@
 -- Doc styles: the book reads them off the text taken, the code off the next two characters; and the ends of lines.
-use Prim.Native.Nat.{ℕ, zero, suc, _+_, _≤_, _<_, zero-le, suc-le-suc}
-use mathlib.Core.Path.{_≡_, refl, sym, ap, subst, _∙_}
+use Prim.Native.Nat.{ℕ, zero, suc, _≤_}
+use mathlib.Core.Path.{_≡_, refl, ap}
 use mathlib.Core.Bool.{Bool, true, false, not}
 use mathlib.Core.List.{List, [], _∷_}
 use mathlib.Core.Logic.{_⊎_, inl, inr}
 use lib.Dec.{eqb}
-use lib.ListN.{length, getD, take, drop}
+use lib.ListN.{length, getD, take}
 use native.Mathlib.Omega.{arith}
-use borrow.Author.Tests.{eq-eqb, ne-eqb, eqb-true}
-use Rattle.basics.specs.Choice.{pick, and, or}
+use borrow.Author.Tests.{ne-eqb, eqb-true}
+use Rattle.basics.specs.Choice.{pick, and}
 use Rattle.eaters.specs.Eat.{takeWhile, while}
 use Rattle.cursor.specs.declared.Cursor.{Cursor}
 use Rattle.cursor.specs.declared.Step.{Step}
@@ -17,9 +17,8 @@ use Rattle.cursor.specs.Cursors.{rest, Seen}
 use Rattle.cursor.specs.Moved.{Moved}
 use Rattle.cursor.specs.Ran.{left}
 use Rattle.cursor.proofs.Loops.{Eaten, eaten-on, eaten-off, eaten-over}
-use Rattle.token.specs.declared.DocStyle.{DocStyle}
 use Rattle.token.specs.declared.DocStyle.the-variants.{Outer, Inner, Plain}
-use Rattle.token.specs.Names.{is, 'newline', '!', '*', '/'}
+use Rattle.token.specs.Names.{is, '!', '/'}
 use Rattle.token.specs.Comments.{inLine, lineDoc, blockDoc}
 
 -- the run up to the end of a line, in the facts of the code

@@ -1,18 +1,17 @@
 -- The rules of whitespace and comments, from the runs of their scans.
-use Prim.Native.Nat.{ℕ, zero, suc, pred, _+_, _≤_, _<_, zero-le, suc-le-suc}
-use mathlib.Core.Path.{_≡_, refl, sym, ap, subst, _∙_}
-use mathlib.Core.Bool.{Bool, true, false}
+use Prim.Native.Nat.{ℕ, zero, suc, _≤_, zero-le, suc-le-suc}
+use mathlib.Core.Path.{_≡_, refl, sym, ap, _∙_}
+use mathlib.Core.Bool.{Bool}
 use mathlib.Core.List.{List, [], _∷_}
 use mathlib.Core.Logic.{_⊎_, inl, inr}
-use lib.ListN.{length, getD, take, drop}
-use native.Mathlib.Omega.{arith}
+use lib.ListN.{length, getD, drop}
 use borrow.Author.Tests.{ne-eqb}
-use Rattle.basics.specs.Choice.{pick, and}
+use Rattle.basics.specs.Choice.{and}
 use Rattle.basics.proofs.Choices.{by-pick}
 use Rattle.classes.specs.Whitespace.{isWhitespace}
-use Rattle.eaters.specs.Eat.{Got, Read, give, takeWhile, while}
+use Rattle.eaters.specs.Eat.{Read, give, while}
 use Rattle.eaters.specs.Look.{ifEat}
-use Rattle.eaters.specs.Scan.{after, Turn, on, off, turned, scan}
+use Rattle.eaters.specs.Scan.{Turn, on, turned, scan}
 use Rattle.token.specs.declared.DocStyle.{DocStyle}
 use Rattle.token.specs.declared.TokenKind.{TokenKind}
 use Rattle.token.specs.declared.TokenKind.the-variants.{LineComment, BlockComment, Whitespace, Slash}

@@ -1,21 +1,21 @@
 -- Moves in bytes: what a run of characters of one kind took, and one character.
-use Prim.Native.Nat.{ℕ, zero, suc, _+_, _-_, _≤_, _<_}
-use mathlib.Core.Path.{_≡_, refl, sym, ap, subst, _∙_}
+use Prim.Native.Nat.{ℕ, _+_, _≤_, _<_}
+use mathlib.Core.Path.{_≡_, refl, ap, _∙_}
 use mathlib.Core.Bool.{Bool, true, false}
-use mathlib.Core.List.{List, [], _∷_, _++_}
+use mathlib.Core.List.{List, [], _∷_}
 use lib.ListN.{length, getD, take, drop}
 use native.Mathlib.Omega.{arith}
 use Rattle.basics.specs.Choice.{pick}
 use Rattle.text.specs.Chars.{width, size}
 use Rattle.eaters.specs.Eat.{takeWhile, while, eat}
-use Rattle.eaters.proofs.Fits.{Fits, fits-while, fits-eat}
+use Rattle.eaters.proofs.Fits.{fits-while}
 use Rattle.cursor.specs.declared.Cursor.{Cursor}
 use Rattle.cursor.specs.Cursors.{rest}
-use Rattle.cursor.specs.Moved.{Moved, Passed, passed}
+use Rattle.cursor.specs.Moved.{Moved, passed}
 use Rattle.token.specs.declared.TokenKind.the-variants as kind
 use Rattle.cursor.specs.declared.Kinded.{Kinded}
 use Rattle.cursor.specs.declared.Kinded.the-variants.{Plain, Literal}
-use Rattle.cursor.specs.Ran.{left, Ran, kindFrom, Past}
+use Rattle.cursor.specs.Ran.{left, kindFrom, Past}
 use Rattle.cursor.proofs.Moves.{bumped}
 use Rattle.cursor.proofs.Runs.{ran-bytes, ran-eat}
 use Rattle.cursor.proofs.Loops.{ran-while}

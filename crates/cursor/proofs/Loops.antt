@@ -1,13 +1,11 @@
 -- Loops: the run of characters of one kind, and the search for an end. Each invariant says that the answer from here is the answer from the start.
-use Prim.Native.Nat.{ℕ, zero, suc, _+_, _-_, _≤_, _<_}
-use mathlib.Core.Path.{_≡_, refl, sym, ap, subst, _∙_}
+use Prim.Native.Nat.{ℕ, zero, suc, _<_}
+use mathlib.Core.Path.{_≡_, refl, sym, ap, _∙_}
 use mathlib.Core.Bool.{Bool, true, false}
 use mathlib.Core.List.{List, [], _∷_}
-use lib.ListN.{length, getD, drop}
-use native.Mathlib.Omega.{arith}
-use Rattle.basics.specs.Choice.{pick}
-use Rattle.eaters.specs.Eat.{Got, Eater, takeWhile, while}
-use Rattle.eaters.specs.Scan.{after, Turn, on, off, turned, scan}
+use lib.ListN.{getD, drop}
+use Rattle.eaters.specs.Eat.{takeWhile, while}
+use Rattle.eaters.specs.Scan.{after, Turn, on, off, scan}
 use Rattle.cursor.specs.declared.Cursor.{Cursor}
 use Rattle.cursor.specs.declared.Step.{Step}
 use Rattle.cursor.specs.declared.Step.the-variants.{Got as Char, Over}

@@ -1,10 +1,10 @@
 -- Moves of a cursor, in the facts that the code's checks hand over.
-use Prim.Native.Nat.{ℕ, zero, suc, _+_, _-_, _≤_, _<_}
-use mathlib.Core.Path.{_≡_, refl, sym, ap, subst, _∙_}
+use Prim.Native.Nat.{ℕ, _+_, _<_}
+use mathlib.Core.Path.{_≡_, sym, ap, subst, _∙_}
 use mathlib.Core.List.{List, [], _∷_}
-use mathlib.Core.Bool.{Bool, true, false}
+use mathlib.Core.Bool.{true, false}
 use lib.ListN.{length, getD, drop, length-drop}
-use lib.Seq.{getD-drop, drop-drop}
+use lib.Seq.{getD-drop}
 use native.Mathlib.Omega.{arith}
 use Rattle.cursor.specs.declared.Cursor.{Cursor}
 use Rattle.cursor.specs.declared.Step.{Step}

@@ -1,23 +1,20 @@
 -- Laws of runs: one for each word of the vocabulary, so that a function's proof mirrors its rule; and one set for every search for an end.
-use Prim.Native.Nat.{ℕ, zero, suc, _+_, _-_, _≤_, _<_}
+use Prim.Native.Nat.{ℕ, _+_, _≤_}
 use mathlib.Core.Path.{_≡_, refl, sym, ap, subst, _∙_}
 use mathlib.Core.Bool.{Bool, true, false}
-use mathlib.Core.List.{List, [], _∷_, _++_}
+use mathlib.Core.List.{List, _++_}
 use lib.ListN.{length, getD, take, drop, length-drop, length-append}
 use lib.Seq.{drop-drop, take-at}
 use native.Mathlib.Omega.{arith}
-use Rattle.basics.specs.Choice.{pick, and}
+use Rattle.basics.specs.Choice.{and}
 use Rattle.text.specs.Chars.{size}
-use Rattle.eaters.specs.Eat.{Got, Eater, give, nothing, eat, takeWhile, while, _>>=_, _>>_, Read, texted, choose}
+use Rattle.eaters.specs.Eat.{Got, Eater, give, eat, _>>=_, _>>_, texted, choose}
 use Rattle.eaters.specs.Look.{ifAt, ifTwo, ifEat}
-use Rattle.eaters.specs.Scan.{after, Turn, on, off, turned, scan}
 use Rattle.cursor.specs.declared.Cursor.{Cursor}
-use Rattle.cursor.specs.declared.Step.{Step}
 use Rattle.cursor.specs.declared.Step.the-variants as step
-use Rattle.cursor.specs.Cursors.{rest, Here, Seen}
-use Rattle.cursor.specs.Moved.{Moved, start, over, left-of, onward, arrive, then, one-cursor, Passed, passed}
+use Rattle.cursor.specs.Cursors.{rest}
+use Rattle.cursor.specs.Moved.{Moved, start, left-of, then, one-cursor, passed}
 use Rattle.cursor.specs.Ran.{left, Ran}
-use Rattle.cursor.proofs.Moves.{char-at, end-at}
 
 -- ONE ANSWER: two runs of one eater from one cursor end at one cursor, and say the same
 pub record Same {A : Type 0} (d e : Cursor) (x y : A) : Type 0 where

@@ -1,7 +1,7 @@
 -- The laws of one step of a cursor. These alone look into `rest` and `stepAt`.
-use Prim.Native.Nat.{ℕ, _+_, _≤_, _^_, _<_}
-use mathlib.Core.Path.{_≡_, refl, sym, ap, subst, _∙_}
-use mathlib.Core.List.{List, [], _∷_}
+use Prim.Native.Nat.{ℕ, _+_, _≤_}
+use mathlib.Core.Path.{_≡_, sym, ap, _∙_}
+use mathlib.Core.List.{List, _∷_}
 use lib.ListN.{length, drop, length-drop}
 use native.Mathlib.Omega.{arith}
 use Rattle.text.specs.declared.Decoded.{Decoded}
@@ -10,11 +10,10 @@ use Rattle.text.specs.Utf8.{decoded}
 use Rattle.text.specs.Chars.{chars}
 use Rattle.text.proofs.Coding.{Fact}
 use Rattle.text.proofs.Texts.{told, size-chars, few-chars}
-use Rattle.text.proofs.Places.{char-chars, char-room, end-chars, ill-chars}
+use Rattle.text.proofs.Places.{char-chars, end-chars, ill-chars}
 use Rattle.cursor.specs.declared.Cursor.{Cursor}
-use Rattle.cursor.specs.declared.Step.{Step}
 use Rattle.cursor.specs.declared.Step.the-variants.{Got, Over}
-use Rattle.cursor.specs.Cursors.{rest, rest-is, onto, stepAt, Here, Seen, char, end}
+use Rattle.cursor.specs.Cursors.{rest, rest-is, onto, stepAt, Seen, char, end}
 
 module _ (s : List ℕ) (c : Cursor) {d : Decoded} (e : d ≡ decoded (drop (c .at) s)) where
   pub seen-char : {x w : ℕ} → d ≡ Char x w → Seen s c (Got x (record { at = c .at + w }))

@@ -1,13 +1,11 @@
 -- A cursor moves over whole characters. `Moved` is shut: its laws stand here, and nothing else uses its fields.
-use Prim.Native.Nat.{ℕ, suc, _+_, _-_, _≤_, _<_}
+use Prim.Native.Nat.{ℕ, _+_, _≤_}
 use mathlib.Core.Path.{_≡_, refl, sym, ap, subst, _∙_}
-use mathlib.Core.List.{List, [], _∷_, _++_, append-assoc}
-use lib.ListN.{length, drop}
+use mathlib.Core.List.{List, [], _∷_, _++_}
+use lib.ListN.{length}
 use native.Mathlib.Omega.{arith}
 use Rattle.text.specs.Chars.{size}
 use Rattle.cursor.specs.declared.Cursor.{Cursor}
-use Rattle.cursor.specs.declared.Step.{Step}
-use Rattle.cursor.specs.declared.Step.the-variants.{Got, Over}
 use Rattle.cursor.specs.Cursors.{rest, Here}
 
 -- no character, or one and then more

@@ -3,7 +3,7 @@ use Prim.Native.Nat.{ℕ, _+_, _-_, _≤_}
 use mathlib.Core.Path.{_≡_}
 use mathlib.Core.List.{List}
 use lib.ListN.{drop}
-use Rattle.eaters.specs.Eat.{Got, Eater}
+use Rattle.eaters.specs.Eat.{Eater}
 use Rattle.token.specs.declared.TokenKind.{TokenKind}
 use Rattle.token.specs.declared.TokenKind.the-variants as kind
 use Rattle.cursor.specs.declared.Cursor.{Cursor}

@@ -3,7 +3,6 @@
 // Nothing is asked of the text or of the place: where no character can be read, there is the end.
 ghost use mathlib.Core.Path.{_≡_};
 ghost use lib.ListN.{getD, drop};
-ghost use mathlib.Core.List.{[]};
 ghost use Rattle.cursor.specs.Cursors.{rest, Seen, isOver};
 ghost use Rattle.cursor.specs.Moved.{Moved};
 use text::CodePoint;

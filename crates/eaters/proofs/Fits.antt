@@ -1,16 +1,16 @@
 -- An eater fits: it takes no more characters than there are, if n of them are there. A law for each word of the vocabulary.
-use Prim.Native.Nat.{ℕ, zero, suc, _+_, _-_, _≤_, _<_, zero-le, suc-le-suc}
-use mathlib.Core.Path.{_≡_, refl, sym, ap, subst, _∙_}
+use Prim.Native.Nat.{ℕ, zero, suc, _≤_, zero-le, suc-le-suc}
+use mathlib.Core.Path.{_≡_, sym, _∙_}
 use mathlib.Core.List.{List, [], _∷_}
 use mathlib.Core.Bool.{Bool, true, false}
 use lib.Dec.{eqb}
-use lib.ListN.{length, getD, take, drop, length-take, length-drop}
+use lib.ListN.{length, getD, drop, length-take, length-drop}
 use native.Mathlib.Omega.{arith}
-use Rattle.basics.specs.Choice.{pick, and}
-use Rattle.basics.proofs.Choices.{and-1, and-2, by-pick}
-use Rattle.eaters.specs.Eat.{Got, Eater, give, nothing, eat, eatAny, takeWhile, while, takeMost, whileMost, _>>=_, _>>_, Read, texted, choose}
+use Rattle.basics.specs.Choice.{and}
+use Rattle.basics.proofs.Choices.{and-2, by-pick}
+use Rattle.eaters.specs.Eat.{Got, Eater, give, eat, eatAny, takeWhile, while, takeMost, whileMost, _>>=_, _>>_, texted, choose}
 use Rattle.eaters.specs.Look.{ifAt, ifTwo, ifEat, begins, ifBegins}
-use Rattle.eaters.specs.Scan.{after, Turn, on, off, turned, scan, run, firstWith}
+use Rattle.eaters.specs.Scan.{Turn, on, off, turned, scan, run, firstWith}
 
 pub record Fits {A : Type 0} (n : ℕ) (m : Eater A) : Type 0 where
   pub fits : (cs : List ℕ) → n ≤ length cs → m cs .took ≤ length cs

@@ -2,7 +2,7 @@
 -- What it takes are the first `took` characters, and what it leaves are the others.
 use Prim.Native.Nat.{ℕ, zero, suc, _+_}
 use mathlib.Core.List.{List, [], _∷_}
-use mathlib.Core.Bool.{Bool, true, false}
+use mathlib.Core.Bool.{Bool}
 use lib.ListN.{length, take, drop}
 use Rattle.basics.specs.Choice.{pick}
 

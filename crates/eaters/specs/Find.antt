@@ -1,7 +1,7 @@
 -- Where characters are found.
 use Prim.Native.Nat.{ℕ, suc}
 use mathlib.Core.List.{List, [], _∷_}
-use mathlib.Core.Bool.{Bool, true, false}
+use mathlib.Core.Bool.{Bool}
 use Rattle.basics.specs.Choice.{pick}
 
 pub data Place : Type 0 where

@@ -1,5 +1,5 @@
 -- Looking ahead: nothing looks further than these words do, and nothing looks back. A character that is not there counts as 0, as in 000.
-use Prim.Native.Nat.{ℕ, zero, suc}
+use Prim.Native.Nat.{ℕ}
 use mathlib.Core.List.{List, [], _∷_}
 use mathlib.Core.Bool.{Bool, true, false}
 use lib.ListN.{getD}

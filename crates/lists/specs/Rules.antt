@@ -2,7 +2,7 @@
 use Prim.Native.Nat.{ℕ, suc, _/_}
 use mathlib.Core.Path.{_≡_}
 use mathlib.Core.List.{List, [], _∷_}
-use mathlib.Core.Bool.{Bool, true, false, not}
+use mathlib.Core.Bool.{Bool, not}
 use lib.ListN.{length}
 use lib.Dec.{ltb, leb}
 use Rattle.basics.specs.Choice.{pick, and}

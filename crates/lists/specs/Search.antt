@@ -1,7 +1,7 @@
 -- A lent list holds the points of its pairs.
 use Prim.Native.Nat.{ℕ}
 use mathlib.Core.List.{List, [], _∷_}
-use mathlib.Core.Bool.{Bool, true, false}
+use mathlib.Core.Bool.{Bool, false}
 use Rattle.basics.specs.Choice.{or}
 use Rattle.basics.specs.Tests.{within}
 

@@ -1,5 +1,5 @@
 -- The kinds of literals, by form.
-use mathlib.Core.Path.{_≡_, sym, ap}
+use mathlib.Core.Path.{_≡_}
 use mathlib.Core.Bool.{Bool, true, false}
 use Rattle.token.specs.declared.HashCount.{HashCount}
 use Rattle.token.specs.declared.LiteralKind.the-variants as kind

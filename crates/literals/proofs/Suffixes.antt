@@ -1,27 +1,25 @@
 -- Literals from their bodies, in the facts of the code.
-use Prim.Native.Nat.{ℕ, _+_, _-_, _≤_}
+use Prim.Native.Nat.{ℕ, _+_}
 use mathlib.Core.Path.{_≡_, refl, sym, ap, subst, _∙_}
 use mathlib.Core.Bool.{Bool, true, false}
-use mathlib.Core.List.{List, []}
-use lib.ListN.{length, take}
+use mathlib.Core.List.{List}
+use lib.ListN.{take}
 use native.Mathlib.Omega.{arith}
 use Rattle.text.specs.Chars.{size}
-use Rattle.eaters.specs.Eat.{Eater, Read, give, nothing, _>>=_, _>>_, choose}
+use Rattle.eaters.specs.Eat.{Eater, Read, give, nothing, _>>_, choose}
 use Rattle.eaters.specs.Scan.{scan}
 use Rattle.eaters.proofs.Fits.{Fits}
 use Rattle.token.specs.declared.HashCount.{HashCount}
 use Rattle.token.specs.declared.HashCount.the-variants.{Of, NoCount}
 use Rattle.token.specs.declared.LiteralKind.{LiteralKind}
-use Rattle.token.specs.declared.TokenKind.{TokenKind}
 use Rattle.token.specs.declared.TokenKind.the-variants as kind
 use Rattle.token.specs.Lists.{Lists}
-use Rattle.token.specs.Literals.{identifier, Body, literal}
+use Rattle.token.specs.Literals.{identifier, Body}
 use Rattle.token.specs.Quotes.{quoted, doubleTurn, doubleQuoted, single, singleQuoted}
 use Rattle.token.specs.Numbers.{number}
 use Rattle.token.specs.RawStrings.{rawString}
 use Rattle.token.proofs.Takes.{fits-single, fits-double, fits-raw, fits-number}
 use Rattle.cursor.specs.declared.Cursor.{Cursor}
-use Rattle.cursor.specs.declared.Kinded.{Kinded}
 use Rattle.cursor.specs.declared.Kinded.the-variants.{Literal}
 use Rattle.cursor.specs.declared.Scanned.{Scanned}
 use Rattle.cursor.specs.Cursors.{rest}
@@ -29,7 +27,7 @@ use Rattle.cursor.specs.Ran.{Ran, kindFrom, Past}
 use Rattle.cursor.proofs.Runs.{ran-word, ran-give, ran-bind, ran-then, ran-say, ran-texted, ran-this, ran-that, ran-bytes}
 use Rattle.quoted.specs.declared.RawQuoted.{RawQuoted}
 use Rattle.quoted.specs.Raws.{rawBody, RawRan}
-use Rattle.literals.specs.Forms.{singleKind, doubleKind, SuffixRan, LiteralRan}
+use Rattle.literals.specs.Forms.{SuffixRan, LiteralRan}
 
 -- a suffix is read, or not
 pub suffix-read : (L : Lists) (k : LiteralKind) {u : Bool} {s : List ℕ} {c d : Cursor} → u ≡ true → Ran (identifier L) s c d tt → SuffixRan L k u s c (record { kind = Literal k c; next = d })

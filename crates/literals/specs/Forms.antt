@@ -1,5 +1,5 @@
 -- The forms of literals, and what their scans promise.
-use Prim.Native.Nat.{ℕ, _≤_}
+use Prim.Native.Nat.{ℕ}
 use mathlib.Core.Path.{_≡_}
 use mathlib.Core.Bool.{Bool, true, false}
 use mathlib.Core.List.{List}
@@ -10,7 +10,6 @@ use Rattle.token.specs.declared.LiteralKind.the-variants as kind
 use Rattle.token.specs.Lists.{Lists}
 use Rattle.token.specs.Literals.{identifier, Body, literal}
 use Rattle.cursor.specs.declared.Cursor.{Cursor}
-use Rattle.cursor.specs.declared.Kinded.{Kinded}
 use Rattle.cursor.specs.declared.Kinded.the-variants.{Literal}
 use Rattle.cursor.specs.declared.Scanned.{Scanned}
 use Rattle.cursor.specs.Ran.{Ran, kindFrom, Past}

@@ -1,18 +1,17 @@
 -- What a quote and the letters r, b and c begin, in the facts of the code.
 use Prim.Native.Nat.{ℕ, _+_, _<_}
-use mathlib.Core.Path.{_≡_, refl, sym, ap, subst, _∙_}
+use mathlib.Core.Path.{_≡_, sym, ap, subst, _∙_}
 use mathlib.Core.Bool.{Bool, true, false}
 use mathlib.Core.List.{List, []}
 use lib.ListN.{getD, drop}
 use lib.Dec.{eqb}
 use native.Mathlib.Omega.{arith}
 use borrow.Author.Tests.{eq-eqb, ne-eqb, eqb-true}
-use Rattle.basics.specs.Choice.{and, or}
+use Rattle.basics.specs.Choice.{and}
 use Rattle.basics.proofs.Choices.{and-1}
 use Rattle.text.specs.Chars.{width}
 use Rattle.classes.specs.Identifiers.{idStart}
 use Rattle.eaters.specs.Eat.{Eater, give, eat, _>>_}
-use Rattle.token.specs.declared.TokenKind.{TokenKind}
 use Rattle.token.specs.declared.TokenKind.the-variants.{RawIdent}
 use Rattle.token.specs.Lists.{Lists, lent, starting}
 use Rattle.token.specs.Names.{is, '#', 'double', 'single', 'r'}

@@ -1,10 +1,10 @@
 -- The search for the end of a raw string, in the facts of the code.
-use Prim.Native.Nat.{ℕ, zero, suc, _+_, _-_, _≤_, _<_, zero-le, suc-le-suc}
-use mathlib.Core.Path.{_≡_, refl, sym, ap, subst, _∙_}
+use Prim.Native.Nat.{ℕ, zero, suc, _<_}
+use mathlib.Core.Path.{_≡_, refl, sym, ap, _∙_}
 use mathlib.Core.Bool.{Bool, true, false}
 use mathlib.Core.List.{List, [], _∷_}
 use lib.Dec.{eqb, eqb·zero-suc, eqb·suc-suc}
-use lib.ListN.{length, getD, drop}
+use lib.ListN.{length, drop}
 use native.Mathlib.Omega.{arith}
 use borrow.Author.Tests.{ne-eqb, eq-eqb, eqb-true}
 use Rattle.basics.specs.Choice.{pick, and}
@@ -14,7 +14,7 @@ use Rattle.token.specs.Names.{is, 'double', '#'}
 use Rattle.cursor.specs.declared.Cursor.{Cursor}
 use Rattle.cursor.specs.declared.Step.{Step}
 use Rattle.cursor.specs.declared.Step.the-variants.{Got as Char, Over}
-use Rattle.cursor.specs.Cursors.{rest, Here, Seen}
+use Rattle.cursor.specs.Cursors.{rest, Seen}
 use Rattle.cursor.specs.Moved.{Moved, start, over, onward, arrive, left-of, no-more}
 use Rattle.cursor.specs.Ran.{left, Ran}
 use Rattle.cursor.proofs.Moves.{char-at, end-at}

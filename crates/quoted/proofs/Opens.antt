@@ -1,13 +1,13 @@
 -- Raw strings, from their hashes on, in the facts of the code.
-use Prim.Native.Nat.{ℕ, zero, suc, _+_, _≤_, _<_}
-use mathlib.Core.Path.{_≡_, refl, sym, ap, subst, _∙_}
+use Prim.Native.Nat.{ℕ, _≤_, _<_}
+use mathlib.Core.Path.{_≡_, refl, sym, subst}
 use mathlib.Core.Bool.{Bool, true, false}
 use mathlib.Core.List.{List, [], _∷_}
 use lib.Dec.{ltb}
 use lib.ListN.{length, getD, take, drop}
 use borrow.Author.Tests.{ne-eqb, lt-ltb, le-ltb}
 use Rattle.basics.specs.Choice.{pick, and}
-use Rattle.eaters.specs.Eat.{Eater, give, eat, eatAny, takeWhile, while, _>>=_, _>>_}
+use Rattle.eaters.specs.Eat.{Eater, give, eatAny, takeWhile, _>>=_, _>>_}
 use Rattle.eaters.specs.Look.{ifEat}
 use Rattle.eaters.specs.Scan.{firstWith}
 use Rattle.token.specs.declared.HashCount.{HashCount}
@@ -19,10 +19,10 @@ use Rattle.token.specs.RawStrings.{counted, uncounted, rawString}
 use Rattle.cursor.specs.declared.Cursor.{Cursor}
 use Rattle.cursor.specs.Cursors.{rest}
 use Rattle.cursor.specs.Moved.{Moved, arrive}
-use Rattle.cursor.specs.Ran.{left, Ran}
+use Rattle.cursor.specs.Ran.{Ran}
 use Rattle.cursor.proofs.Runs.{ran-word, ran-give, ran-bind, ran-then, ran-say, ran-no, ran-take}
 use Rattle.cursor.proofs.Loops.{ran-while}
-use Rattle.quoted.specs.Raws.{Counted, rawBody, RawRan}
+use Rattle.quoted.specs.Raws.{Counted, RawRan}
 use Rattle.quoted.specs.declared.Hashes.{Hashes}
 
 -- one character, if there is one

@@ -1,28 +1,24 @@
 -- Counting hashes, in the facts of the code.
-use Prim.Native.Nat.{ℕ, zero, suc, _+_, _-_, _*_, _^_, _≤_, _<_, zero-le, suc-le-suc}
-use mathlib.Core.Path.{_≡_, refl, sym, ap, subst, _∙_}
-use mathlib.Core.Bool.{Bool, true, false}
+use Prim.Native.Nat.{ℕ, zero, suc, _+_, _-_, _*_, _^_, _≤_, _<_}
+use mathlib.Core.Path.{_≡_, refl, sym, ap, _∙_}
 use mathlib.Core.List.{List, [], _∷_}
 use mir.Val.{Fits}
 use mir.Syntax.{w64}
-use lib.Dec.{eqb}
-use lib.ListN.{length, getD, drop, length-drop}
+use lib.ListN.{length}
 use native.Mathlib.Omega.{arith}
 use borrow.Author.Tests.{ne-eqb}
-use Rattle.basics.specs.Choice.{pick}
-use Rattle.eaters.specs.Eat.{takeWhile, while, takeMost, whileMost}
+use Rattle.eaters.specs.Eat.{takeWhile, takeMost, whileMost}
 use Rattle.token.specs.Names.{is, '#'}
 use Rattle.cursor.specs.declared.Cursor.{Cursor}
 use Rattle.cursor.specs.declared.Step.{Step}
 use Rattle.cursor.specs.declared.Step.the-variants.{Got, Over}
-use Rattle.cursor.specs.Cursors.{rest, Here, Seen}
-use Rattle.cursor.specs.Moved.{Moved, start, over, onward, arrive, left-of}
+use Rattle.cursor.specs.Cursors.{rest, Seen}
+use Rattle.cursor.specs.Moved.{Moved, start, over, onward, arrive}
 use Rattle.cursor.specs.Ran.{left}
 use Rattle.cursor.proofs.Moves.{char-at, end-at}
 use Rattle.cursor.proofs.Steps.{rest-short}
 use Rattle.cursor.proofs.Loops.{Eaten, eaten-none, eaten-on, eaten-off, eaten-over}
 use Rattle.quoted.specs.Raws.{Counted, CountedMost}
-use Rattle.quoted.specs.declared.Hashes.{Hashes}
 
 abbrev run : List ℕ → ℕ
 run cs = length (takeWhile (is '#') cs)

@@ -1,24 +1,21 @@
 -- The scans of quoted literals, in the facts of the code: one law for each way of a turn.
-use Prim.Native.Nat.{ℕ, _+_, _≤_, _<_}
-use mathlib.Core.Path.{_≡_, refl, sym, ap, subst, _∙_}
+use Prim.Native.Nat.{ℕ}
+use mathlib.Core.Path.{_≡_, refl, ap, _∙_}
 use mathlib.Core.Bool.{Bool, true, false, not}
-use mathlib.Core.List.{List, [], _∷_}
-use lib.Dec.{eqb}
-use lib.ListN.{length, getD, drop}
-use native.Mathlib.Omega.{arith}
+use mathlib.Core.List.{List}
+use lib.ListN.{getD, drop}
 use borrow.Author.Tests.{ne-eqb}
-use Rattle.basics.specs.Choice.{pick, and, or}
-use Rattle.eaters.specs.Eat.{Eater, give, eat, _>>=_, _>>_}
-use Rattle.eaters.specs.Look.{ifTwo}
-use Rattle.eaters.specs.Scan.{Turn, on, off, scan}
-use Rattle.token.specs.Names.{is, 'newline', 'double', 'single', '/', '\'}
+use Rattle.basics.specs.Choice.{and}
+use Rattle.eaters.specs.Eat.{give, eat, _>>=_, _>>_}
+use Rattle.eaters.specs.Scan.{Turn, scan}
+use Rattle.token.specs.Names.{is, 'single', '\'}
 use Rattle.token.specs.Quotes.{doubleTurn, singleTurn, single}
 use Rattle.cursor.specs.declared.Cursor.{Cursor}
 use Rattle.cursor.specs.declared.Step.{Step}
 use Rattle.cursor.specs.declared.Step.the-variants.{Got, Over}
-use Rattle.cursor.specs.Cursors.{rest, Here, Seen}
-use Rattle.cursor.specs.Moved.{Moved, start}
-use Rattle.cursor.specs.Ran.{left, Ran}
+use Rattle.cursor.specs.Cursors.{rest, Seen}
+use Rattle.cursor.specs.Moved.{Moved}
+use Rattle.cursor.specs.Ran.{Ran}
 use Rattle.cursor.proofs.Moves.{char-at, end-at}
 use Rattle.cursor.proofs.Runs.{ran-give, ran-then, ran-eat-2, ran-both, ran-not-both}
 use Rattle.cursor.proofs.Loops.{Inside, inside-on, inside-skip, inside-off, inside-over, inside-found}

@@ -1,5 +1,4 @@
 // Quoted literals, each proved equal to its rule in the book. Names are 000's.
-ghost use mathlib.Core.Path.{_≡_};
 ghost use Rattle.eaters.specs.Scan.{scan};
 ghost use Rattle.token.specs.Quotes.{doubleTurn, singleTurn, single};
 ghost use Rattle.eaters.specs.Scan.{firstWith};

@@ -1,5 +1,4 @@
 -- Document 01, "When the build says no": the table is in order of checking, and the first that holds is given.
-use Rattle.refusal.specs.declared.Bad.{Bad}
 use Rattle.refusal.specs.declared.Verdict.{Verdict}
 use Rattle.refusal.specs.declared.Verdict.the-variants.{Fine, Refused}
 

@@ -1,5 +1,5 @@
 -- Where a vector that is there leaves the tally.
-use Prim.Native.Nat.{ℕ, _+_, _-_, _≤_, _<_}
+use Prim.Native.Nat.{ℕ, _+_, _-_, _≤_}
 use mathlib.Core.Bool.{Bool}
 use mathlib.Core.Path.{_≡_}
 use native.Mathlib.Omega.{arith}
@@ -10,7 +10,6 @@ use Rattle.vectors.specs.declared.Part.the-variants.{At}
 use Rattle.vectors.specs.Placed.{InFile, Parts, VectorInFile}
 use Rattle.vectors.proofs.Laws.{placed, vector-placed}
 use Rattle.replay.specs.declared.Tally.{Tally}
-use Rattle.replay.specs.declared.Span.{Span}
 use Rattle.replay.specs.Counted.{Counted, Within}
 
 pub parts-within : (n at : ℕ) {o a b c d : ℕ} {v : Vector} → VectorInFile n at v → v ≡ Of o a b c d

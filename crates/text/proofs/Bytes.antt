@@ -1,17 +1,16 @@
 -- One byte of a sequence: what the code's test of it says of the rows of RFC 3629.
-use Prim.Native.Nat.{ℕ, suc, _+_, _-_, _*_, _≤_, _<_}
-use mathlib.Core.Path.{_≡_, refl, sym, ap, _∙_}
+use Prim.Native.Nat.{ℕ, _+_, _≤_, _<_}
+use mathlib.Core.Path.{_≡_, refl, sym, _∙_}
 use mathlib.Core.List.{List, [], _∷_}
 use mathlib.Core.Bool.{Bool, true, false}
 use lib.ListN.{length, getD, drop, drop-of-length-le}
 use lib.Seq.{drop-cons, drop-drop}
 use native.Mathlib.Omega.{arith}
-use native.Mathlib.Numerals.{add-one}
 use Rattle.basics.specs.Choice.{pick}
 use Rattle.basics.specs.Tests.{within}
-use Rattle.basics.proofs.Choices.{Within, within-true, inside-within, under-within, over-within, by-pick}
+use Rattle.basics.proofs.Choices.{Within, within-true, inside-within, under-within, by-pick}
 use Rattle.text.specs.declared.Decoded.{Decoded}
-use Rattle.text.specs.declared.Decoded.the-variants.{Char, End, Ill}
+use Rattle.text.specs.declared.Decoded.the-variants.{Char, Ill}
 use Rattle.text.specs.declared.Next.{Next}
 use Rattle.text.specs.declared.Next.the-variants.{Byte, Other}
 use Rattle.text.specs.Next.{next, Second, Tail}

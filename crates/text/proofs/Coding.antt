@@ -1,9 +1,8 @@
 -- A character and its bytes: what decodes encodes to the same bytes, and what encodes decodes to the same character.
-use Prim.Native.Nat.{ℕ, zero, suc, _+_, _-_, _*_, _/_, _%_, _≤_, _<_}
-use mathlib.Core.Path.{_≡_, refl, sym, ap, _∙_}
+use Prim.Native.Nat.{ℕ, _+_, _/_, _%_, _≤_, _<_}
+use mathlib.Core.Path.{_≡_, refl, ap, _∙_}
 use mathlib.Core.List.{List, [], _∷_, _++_}
-use mathlib.Core.Logic.{_⊎_, inl, inr, ⊎-elim}
-use mathlib.Core.Bool.{Bool, true, false}
+use mathlib.Core.Logic.{inl, inr, ⊎-elim}
 use borrow.Author.Tests.{lt-ltb, le-ltb}
 use lib.ListN.{length, drop}
 use native.Mathlib.Omega.{arith}
@@ -12,7 +11,7 @@ use Rattle.basics.proofs.Choices.{below-or-not, inside-within}
 use Rattle.text.specs.declared.Decoded.{Decoded}
 use Rattle.text.specs.declared.Decoded.the-variants.{Char, End, Ill}
 use Rattle.text.specs.Utf8 as utf8
-use Rattle.text.specs.Utf8.{byte, value2, value3, value4, lead, decoded}
+use Rattle.text.specs.Utf8.{byte, value2, value3, value4, decoded}
 use Rattle.text.specs.Next.{Tail}
 use Rattle.text.specs.Chars.{Scalar, width, encodeOne}
 use Rattle.text.proofs.Rows.{row-00, row-C2, row-E0, row-E1, row-ED, row-EE, row-F0, row-F1, row-F4}

@@ -1,26 +1,26 @@
 -- Positions: a boundary parts the characters, and the byte there tells it.
-use Prim.Native.Nat.{ℕ, zero, suc, _+_, _-_, _≤_, _<_}
+use Prim.Native.Nat.{ℕ, _+_, _-_, _≤_, _<_}
 use mathlib.Core.Path.{_≡_, refl, sym, ap, subst, _∙_}
 use mathlib.Core.List.{List, [], _∷_, _++_}
 use mathlib.Core.Logic.{_⊎_, inl, inr, ⊎-elim}
 use mathlib.Core.Bool.{Bool, true, false, not}
 use borrow.Author.Tests.{eq-eqb, ne-eqb, lt-ltb, le-ltb, le-leb, lt-leb, eqb-true, leb-true}
-use lib.Dec.{eqb, leb, ltb}
-use lib.ListN.{length, getD, drop, take, length-drop}
+use lib.Dec.{eqb, leb}
+use lib.ListN.{length, getD, drop, length-drop}
 use lib.Seq.{getD-drop, drop-drop}
 use native.Mathlib.Omega.{arith}
 use Rattle.basics.specs.Choice.{and, or}
 use Rattle.basics.specs.Tests.{within}
-use Rattle.basics.proofs.Choices.{below-or-not, yes-or-no, and-1, and-2, inside-within, under-within, over-within}
+use Rattle.basics.proofs.Choices.{below-or-not, and-1, and-2, inside-within, under-within, over-within}
 use Rattle.text.specs.declared.Decoded.{Decoded}
 use Rattle.text.specs.declared.Decoded.the-variants.{Char, End, Ill}
 use Rattle.text.specs.Utf8.{decoded}
 use Rattle.text.specs.Next.{Tail}
-use Rattle.text.specs.Chars.{charsAfter, chars, width, size, WellFormed}
+use Rattle.text.specs.Chars.{chars, width, size, WellFormed}
 use Rattle.text.specs.Position.{edge, onBoundary, startsHere}
 use Rattle.text.proofs.Views.{View, end, ill, one, two, three, four, view}
 use Rattle.text.proofs.Coding.{Fact}
-use Rattle.text.proofs.Texts.{by-chars, stepped, told}
+use Rattle.text.proofs.Texts.{by-chars}
 
 -- the characters before a boundary, and those from it on
 pub record Parted (s : List ℕ) (at : ℕ) : Type 0 where

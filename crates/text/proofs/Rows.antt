@@ -1,14 +1,14 @@
 -- The rows of RFC 3629 section 4, each by the range of its first byte.
 use Prim.Native.Nat.{ℕ, _≤_, _<_}
-use mathlib.Core.Path.{_≡_, refl, sym, ap, _∙_}
+use mathlib.Core.Path.{_≡_, ap, _∙_}
 use mathlib.Core.List.{List}
-use mathlib.Core.Bool.{Bool, true, false}
+use mathlib.Core.Bool.{Bool}
 use native.Mathlib.Omega.{arith}
 use Rattle.basics.specs.Choice.{pick}
 use Rattle.basics.specs.Tests.{within}
 use Rattle.basics.proofs.Choices.{inside-within, under-within, over-within}
 use Rattle.text.specs.declared.Decoded.{Decoded}
-use Rattle.text.specs.declared.Decoded.the-variants.{Char, End, Ill}
+use Rattle.text.specs.declared.Decoded.the-variants.{Char, Ill}
 use Rattle.text.specs.Utf8.{two, three, four, lead}
 
 -- a row that the byte is above, and one that it is in

@@ -1,6 +1,6 @@
 -- Where a text's characters end: at its end, or at its first ill-formed sequence. So the place beside refusal 2 is where that sequence starts.
-use Prim.Native.Nat.{ℕ, _+_, _≤_, _<_}
-use mathlib.Core.Path.{_≡_, refl, sym, ap, subst, _∙_}
+use Prim.Native.Nat.{ℕ}
+use mathlib.Core.Path.{_≡_, refl, ap}
 use mathlib.Core.List.{List, [], _∷_}
 use mathlib.Core.Logic.{_⊎_, inl, inr, ⊎-elim}
 use lib.ListN.{length, drop, length-drop}
@@ -9,8 +9,7 @@ use native.Mathlib.Omega.{arith}
 use Rattle.text.specs.declared.Decoded.{Decoded}
 use Rattle.text.specs.declared.Decoded.the-variants.{Char, End, Ill}
 use Rattle.text.specs.Utf8.{decoded}
-use Rattle.text.specs.Chars.{chars, width, size, WellFormed}
-use Rattle.text.proofs.Coding.{Fact}
+use Rattle.text.specs.Chars.{chars, size, WellFormed}
 use Rattle.text.proofs.Texts.{by-chars, stepped, told, size-chars}
 
 abbrev Stopped : Decoded → Type 0

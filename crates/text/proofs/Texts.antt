@@ -1,17 +1,16 @@
 -- The characters of a text: one at a time; how many bytes they take; and the round trip between texts and characters.
-use Prim.Native.Nat.{ℕ, zero, suc, _+_, _-_, _≤_, _<_, pred, zero-le}
+use Prim.Native.Nat.{ℕ, zero, suc, _≤_, zero-le}
 use mathlib.Core.Path.{_≡_, refl, sym, ap, subst, _∙_}
 use mathlib.Core.List.{List, [], _∷_, _++_, append-assoc, append-nil}
-use mathlib.Core.Bool.{Bool, true, false}
 use lib.Dec.{ltb}
-use lib.ListN.{length, drop, length-append, length-drop, drop-of-length-le}
+use lib.ListN.{length, drop, length-append, length-drop}
 use lib.Seq.{drop-drop, drop-length, drop-append-seam}
 use native.Mathlib.Omega.{arith}
 use Rattle.basics.proofs.Choices.{by-pick}
 use Rattle.text.specs.declared.Decoded.{Decoded}
 use Rattle.text.specs.declared.Decoded.the-variants.{Char, End, Ill}
 use Rattle.text.specs.Utf8.{decoded}
-use Rattle.text.specs.Chars.{charsAfter, chars, width, size, encodeOne, encode, Scalar, Scalars, nil, cons, WellFormed}
+use Rattle.text.specs.Chars.{charsAfter, chars, width, size, encodeOne, encode, Scalars, nil, cons, WellFormed}
 use Rattle.text.proofs.Coding.{Fact, FactOf, fact, back, length-encodeOne}
 
 after : (k : ℕ) (s : List ℕ) → charsAfter k s ≡ chars (drop k s)

@@ -1,11 +1,7 @@
 -- What stands at the front of a text, case by case: the end, an ill-formed sequence, or a character of one to four bytes.
-use Prim.Native.Nat.{ℕ, zero, suc, _+_, _-_, _*_, _/_, _%_, _≤_, _<_}
-use mathlib.Core.Path.{_≡_, refl, sym, ap, _∙_}
-use mathlib.Core.List.{List, [], _∷_, _++_}
-use mathlib.Core.Logic.{_⊎_, inl, inr}
-use mathlib.Core.Bool.{Bool, true, false}
-use borrow.Author.Tests.{lt-ltb, le-ltb}
-use lib.ListN.{length, drop}
+use Prim.Native.Nat.{ℕ, _≤_, _<_}
+use mathlib.Core.List.{List, [], _∷_}
+use mathlib.Core.Logic.{inl, inr}
 use native.Mathlib.Omega.{arith}
 use Rattle.basics.specs.Tests.{within}
 use Rattle.basics.proofs.Choices.{Within, within-true, by-pick}
@@ -14,7 +10,7 @@ use Rattle.text.specs.declared.Decoded.the-variants.{Char, End, Ill}
 use Rattle.text.specs.Utf8 as utf8
 use Rattle.text.specs.Utf8.{byte, value2, value3, value4, lead, decoded}
 use Rattle.text.specs.Next.{Tail}
-use Rattle.text.specs.Chars.{Scalar, width, encodeOne}
+use Rattle.text.specs.Chars.{Scalar}
 
 pub data View : List ℕ → Decoded → Type 0 where
   end : View [] End

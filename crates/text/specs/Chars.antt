@@ -1,13 +1,11 @@
 -- The characters of a text, and the bytes of characters.
-use Prim.Native.Nat.{ℕ, zero, suc, _+_, _-_, _*_, _/_, _%_, _≤_, _<_, pred}
+use Prim.Native.Nat.{ℕ, zero, suc, _+_, _/_, _%_, _≤_, _<_, pred}
 use mathlib.Core.Path.{_≡_}
 use mathlib.Core.Logic.{_⊎_}
 use mathlib.Core.List.{List, [], _∷_, _++_}
-use mathlib.Core.Bool.{Bool, true, false}
 use lib.ListN.{length}
-use lib.Dec.{ltb, leb, eqb}
-use Rattle.basics.specs.Choice.{pick, and, or}
-use Rattle.text.specs.declared.Decoded.{Decoded}
+use lib.Dec.{ltb}
+use Rattle.basics.specs.Choice.{pick}
 use Rattle.text.specs.declared.Decoded.the-variants.{Char, End, Ill}
 use Rattle.text.specs.Utf8.{decoded}
 

@@ -1,22 +1,19 @@
 -- Tokens cover the text without gap or overlap; each takes at least one character; the frontmatter flag.
-use Prim.Native.Nat.{ℕ, zero, suc, pred, _+_, _-_, _≤_, _<_, zero-le, suc-le-suc}
-use mathlib.Core.Path.{_≡_, refl, sym, ap, subst, _∙_}
+use Prim.Native.Nat.{ℕ, zero, suc, pred, _+_, _≤_, zero-le, suc-le-suc}
+use mathlib.Core.Path.{_≡_, refl, ap, _∙_}
 use mathlib.Core.List.{List, [], _∷_, _++_}
-use mathlib.Core.Logic.{_⊎_, inl, inr, ⊎-elim}
+use mathlib.Core.Logic.{_⊎_, inl, inr}
 use mathlib.Core.Bool.{Bool, true, false}
 use borrow.Author.Tests.{eqb-true, eq-eqb}
-use lib.ListN.{length, take, drop, take-append-drop, length-drop, length-append}
+use lib.ListN.{length, take, drop, take-append-drop, length-drop}
 use native.Mathlib.Omega.{arith}
-use Rattle.basics.specs.Choice.{pick, and}
-use Rattle.basics.proofs.Choices.{by-pick, and-1, and-2}
 use Rattle.text.specs.Chars.{chars, size, WellFormed}
 use Rattle.text.proofs.Texts.{size-chars, width-some, few-chars}
 use Rattle.eaters.specs.Eat.{Got}
-use Rattle.token.specs.declared.TokenKind.{TokenKind}
 use Rattle.token.specs.declared.Token as token
 use Rattle.token.specs.Lists.{Lists}
 use Rattle.token.specs.Kinds.{kindNumber}
-use Rattle.token.specs.Advance.{Told, stays, advance}
+use Rattle.token.specs.Advance.{Told, advance}
 use Rattle.token.specs.Tokens.{Piece, tokensAfter, tokens, placed, records}
 use Rattle.token.proofs.Takes.{fits-token}
 

@@ -10,12 +10,12 @@ use Rattle.lists.specs.Search.{inPairs}
 use Rattle.classes.specs.Whitespace.{isWhitespace, isHorizontalWhitespace}
 use Rattle.classes.specs.Identifiers.{letter, idStart, idContinue}
 use Rattle.classes.specs.Emoji.{emojiChar}
-use Rattle.eaters.specs.Eat.{Got, give, eat, eatAny, while, whileMost, _>>=_, texted, choose}
+use Rattle.eaters.specs.Eat.{give, eat, eatAny, while, whileMost, _>>=_, texted, choose}
 use Rattle.eaters.specs.Look.{ifAt, ifTwo, ifBegins}
 use Rattle.eaters.specs.Scan.{scan, firstWith}
-use Rattle.eaters.specs.Find.{Place, at, nowhere, find}
+use Rattle.eaters.specs.Find.{at, nowhere, find}
 use Rattle.token.specs.declared.DocStyle.the-variants.{Outer, Plain}
-use Rattle.token.specs.declared.HashCount.the-variants.{Of, NoCount}
+use Rattle.token.specs.declared.HashCount.the-variants.{NoCount}
 use Rattle.token.specs.declared.Base.the-variants.{Binary, Decimal, Hexadecimal}
 use Rattle.token.specs.declared.LiteralKind.the-variants as literal
 use Rattle.token.specs.declared.LiteralKind.the-variants.{Int, Float, Char, Str}

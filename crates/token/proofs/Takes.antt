@@ -1,30 +1,30 @@
 -- No rule takes more characters than there are: a term for each rule, which mirrors it.
-use Prim.Native.Nat.{ℕ, zero, suc, _+_, _-_, _≤_, _<_, zero-le, suc-le-suc}
-use mathlib.Core.Path.{_≡_, refl, sym, ap, subst, _∙_}
+use Prim.Native.Nat.{ℕ, zero, suc, _+_, _≤_, zero-le, suc-le-suc}
+use mathlib.Core.Path.{_≡_, refl, ap}
 use mathlib.Core.List.{List, [], _∷_}
 use mathlib.Core.Bool.{Bool, true, false, not}
-use lib.ListN.{length, getD, drop, length-drop}
+use lib.ListN.{length, drop, length-drop}
 use native.Mathlib.Omega.{arith}
-use Rattle.basics.specs.Choice.{pick, and, or}
+use Rattle.basics.specs.Choice.{and, or}
 use Rattle.basics.proofs.Choices.{by-pick}
 use Rattle.classes.specs.Identifiers.{letter, digit, idStart}
 use Rattle.classes.specs.Whitespace.{isHorizontalWhitespace}
-use Rattle.eaters.specs.Eat.{Got, Eater, nothing, takeWhile, while}
+use Rattle.eaters.specs.Eat.{Eater, nothing, while}
 use Rattle.eaters.specs.Look.{begins}
-use Rattle.eaters.specs.Find.{Place, at, nowhere, further, find, orElse}
-use Rattle.eaters.proofs.Fits.{Fits, fits-give, fits-eat, fits-any, fits-while, fits-whileMost, fits-bind, fits-then, fits-texted, fits-choose, fits-ifAt, fits-ifEat, fits-ifTwo, fits-more, fits-ifBegins, begins-long, fits-scan, fits-firstWith, fits-wider, fits-ifAt-one}
-use Rattle.eaters.proofs.Firsts.{First, find-first}
+use Rattle.eaters.specs.Find.{Place, at, nowhere, further, orElse}
+use Rattle.eaters.proofs.Fits.{Fits, fits-give, fits-eat, fits-any, fits-while, fits-bind, fits-then, fits-texted, fits-choose, fits-ifAt, fits-ifEat, fits-ifTwo, fits-more, fits-ifBegins, begins-long, fits-scan, fits-firstWith, fits-wider, fits-ifAt-one}
+use Rattle.eaters.proofs.Firsts.{find-first}
 use Rattle.token.specs.declared.HashCount.{HashCount}
 use Rattle.token.specs.declared.LiteralKind.{LiteralKind}
 use Rattle.token.specs.declared.LiteralKind.the-variants.{Char, Byte, Str, ByteStr, CStr, RawStr, RawByteStr, RawCStr}
 use Rattle.token.specs.declared.Base.{Base}
 use Rattle.token.specs.declared.Base.the-variants.{Binary, Octal, Decimal, Hexadecimal}
 use Rattle.token.specs.declared.TokenKind.{TokenKind}
-use Rattle.token.specs.Names.{is, 'newline', 'double', '#', 'single', '-', '\'}
+use Rattle.token.specs.Names.{is, 'newline', 'double', '#', 'single', '-'}
 use Rattle.token.specs.Lists.{Lists, starting, going, smiling}
 use Rattle.token.specs.Literals.{identifier, Body, literal}
 use Rattle.token.specs.Whitespace.{whitespace}
-use Rattle.token.specs.Comments.{lineComment, blockTurn, blockComment, slash}
+use Rattle.token.specs.Comments.{blockTurn, slash}
 use Rattle.token.specs.Words.{invalidIdent, prefixMark, identOrUnknownPrefix}
 use Rattle.token.specs.Quotes.{doubleTurn, doubleQuoted, singleTurn, singleQuoted}
 use Rattle.token.specs.RawStrings.{rawString}

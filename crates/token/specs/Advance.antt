@@ -1,12 +1,11 @@
 -- One token (000's advance_token): the end is answered first, and then there is one decision over the first character, in 000's order of arms.
-use Prim.Native.Nat.{ℕ, zero, suc, pred, _+_, _-_}
+use Prim.Native.Nat.{ℕ, suc}
 use mathlib.Core.List.{List, [], _∷_}
-use mathlib.Core.Bool.{Bool, true, false, not}
-use lib.ListN.{length, getD, take, drop}
-use lib.Dec.{ltb, eqb}
-use Rattle.basics.specs.Choice.{pick, and, or}
-use Rattle.eaters.specs.Eat.{Got, Eater, give, nothing, eat, takeWhile, while, _>>=_, _>>_, texted, choose}
-use Rattle.eaters.specs.Look.{ifAt, ifTwo, ifEat}
+use mathlib.Core.Bool.{Bool, true, false}
+use lib.Dec.{eqb}
+use Rattle.basics.specs.Choice.{and}
+use Rattle.eaters.specs.Eat.{Eater, give, eat, while, _>>=_, _>>_, choose}
+use Rattle.eaters.specs.Look.{ifTwo, ifEat}
 use Rattle.eaters.specs.Look.{ifBegins}
 use Rattle.classes.specs.Identifiers.{digit}
 use Rattle.classes.specs.Whitespace.{isWhitespace}

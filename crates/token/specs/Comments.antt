@@ -1,13 +1,12 @@
 -- Comments (000's line_comment and block_comment), after the two characters that open them.
-use Prim.Native.Nat.{ℕ, zero, suc, pred, _+_, _-_}
-use mathlib.Core.List.{List, [], _∷_}
-use mathlib.Core.Bool.{Bool, true, false, not}
-use lib.ListN.{length, getD}
-use lib.Dec.{ltb, eqb}
+use Prim.Native.Nat.{ℕ, suc, pred}
+use mathlib.Core.List.{List}
+use mathlib.Core.Bool.{Bool, not}
+use lib.ListN.{getD}
 use Rattle.basics.specs.Choice.{pick, and, or}
-use Rattle.eaters.specs.Eat.{Eater, give, nothing, eat, while, _>>=_, _>>_, texted, choose}
-use Rattle.eaters.specs.Look.{ifAt, ifTwo, ifEat}
-use Rattle.eaters.specs.Scan.{Turn, on, off, scan}
+use Rattle.eaters.specs.Eat.{Eater, give, while, _>>=_, _>>_, texted}
+use Rattle.eaters.specs.Look.{ifEat}
+use Rattle.eaters.specs.Scan.{Turn, on, scan}
 use Rattle.token.specs.declared.DocStyle.{DocStyle}
 use Rattle.token.specs.declared.DocStyle.the-variants.{Outer, Inner, Plain}
 use Rattle.token.specs.declared.TokenKind.{TokenKind}

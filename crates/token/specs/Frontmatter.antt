@@ -1,12 +1,11 @@
 -- Frontmatter (000's frontmatter), after its first dash.
-use Prim.Native.Nat.{ℕ, zero, suc, pred, _+_, _-_}
+use Prim.Native.Nat.{ℕ, zero, suc, _+_}
 use mathlib.Core.List.{List, [], _∷_}
 use mathlib.Core.Bool.{Bool, true, false, not}
-use lib.ListN.{length, getD, take, drop}
-use lib.Dec.{ltb, eqb}
+use lib.ListN.{length, drop}
 use Rattle.basics.specs.Choice.{pick, and, or}
-use Rattle.eaters.specs.Eat.{Got, Eater, give, nothing, eat, takeWhile, while, _>>=_, _>>_, texted, choose}
-use Rattle.eaters.specs.Look.{ifAt, ifTwo, ifEat}
+use Rattle.eaters.specs.Eat.{Eater, give, nothing, takeWhile, while, _>>=_, _>>_}
+use Rattle.eaters.specs.Look.{ifAt, ifEat}
 use Rattle.eaters.specs.Look.{begins}
 use Rattle.eaters.specs.Find.{Place, at, nowhere, further, find, orElse}
 use Rattle.classes.specs.Whitespace.{isHorizontalWhitespace}

@@ -1,16 +1,12 @@
 -- Guarded strings (000's guarded_double_quoted_string), at any place.
-use Prim.Native.Nat.{ℕ, zero, suc, pred, _+_, _-_}
-use mathlib.Core.List.{List, [], _∷_}
-use mathlib.Core.Bool.{Bool, true, false, not}
-use lib.ListN.{length, getD, take, drop}
-use lib.Dec.{ltb, eqb}
-use Rattle.basics.specs.Choice.{pick, and, or}
-use Rattle.eaters.specs.Eat.{Got, Eater, give, nothing, eat, takeWhile, while, _>>=_, _>>_, texted, choose}
-use Rattle.eaters.specs.Look.{ifAt, ifTwo, ifEat}
+use Prim.Native.Nat.{ℕ}
+use mathlib.Core.Bool.{Bool}
+use lib.ListN.{length}
+use Rattle.eaters.specs.Eat.{Eater, give, nothing, while, _>>=_, _>>_, texted, choose}
+use Rattle.eaters.specs.Look.{ifEat}
 use Rattle.eaters.specs.Eat.{Read, whileMost}
 use Rattle.eaters.specs.Scan.{scan}
 use Rattle.text.specs.Chars.{size}
-use Rattle.token.specs.declared.GuardedStr.{GuardedStr}
 use Rattle.token.specs.declared.Guarded.{Guarded}
 use Rattle.token.specs.declared.Guarded.the-variants.{Found, NotFound}
 use Rattle.token.specs.Names.{is, 'double', '#'}

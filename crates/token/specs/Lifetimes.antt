@@ -1,11 +1,8 @@
 -- Lifetimes and character literals (000's lifetime_or_char), after the quote.
-use Prim.Native.Nat.{ℕ, zero, suc, pred, _+_, _-_}
-use mathlib.Core.List.{List, [], _∷_}
-use mathlib.Core.Bool.{Bool, true, false, not}
-use lib.ListN.{length, getD}
-use lib.Dec.{ltb, eqb}
-use Rattle.basics.specs.Choice.{pick, and, or}
-use Rattle.eaters.specs.Eat.{Eater, give, nothing, eat, while, _>>=_, _>>_, texted, choose}
+use Prim.Native.Nat.{ℕ, _+_}
+use mathlib.Core.Bool.{Bool, true, false}
+use Rattle.basics.specs.Choice.{or}
+use Rattle.eaters.specs.Eat.{Eater, give, eat, while, _>>=_, _>>_, texted, choose}
 use Rattle.eaters.specs.Look.{ifAt, ifTwo, ifEat}
 use Rattle.text.specs.Chars.{size}
 use Rattle.classes.specs.Identifiers.{digit}

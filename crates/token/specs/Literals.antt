@@ -1,12 +1,8 @@
 -- Literals and their suffixes (000's eat_identifier, eat_literal_suffix).
-use Prim.Native.Nat.{ℕ, zero, suc, pred, _+_, _-_}
-use mathlib.Core.List.{List, [], _∷_}
-use mathlib.Core.Bool.{Bool, true, false, not}
-use lib.ListN.{length, getD}
-use lib.Dec.{ltb, eqb}
-use Rattle.basics.specs.Choice.{pick, and, or}
-use Rattle.eaters.specs.Eat.{Eater, give, nothing, eat, while, _>>=_, _>>_, texted, choose}
-use Rattle.eaters.specs.Look.{ifAt, ifTwo, ifEat}
+use Prim.Native.Nat.{ℕ, _+_}
+use mathlib.Core.Bool.{Bool}
+use Rattle.eaters.specs.Eat.{Eater, give, nothing, while, _>>=_, _>>_, texted, choose}
+use Rattle.eaters.specs.Look.{ifEat}
 use Rattle.text.specs.Chars.{size}
 use Rattle.token.specs.declared.LiteralKind.{LiteralKind}
 use Rattle.token.specs.declared.TokenKind.{TokenKind}

@@ -1,11 +1,9 @@
 -- Numbers (000's number and the digits that it eats), after the first digit.
-use Prim.Native.Nat.{ℕ, zero, suc, pred, _+_, _-_}
+use Prim.Native.Nat.{ℕ}
 use mathlib.Core.List.{List, [], _∷_}
 use mathlib.Core.Bool.{Bool, true, false, not}
-use lib.ListN.{length, getD}
-use lib.Dec.{ltb, eqb}
-use Rattle.basics.specs.Choice.{pick, and, or}
-use Rattle.eaters.specs.Eat.{Eater, give, nothing, eat, while, _>>=_, _>>_, texted, choose}
+use Rattle.basics.specs.Choice.{or}
+use Rattle.eaters.specs.Eat.{Eater, give, nothing, while, _>>=_, _>>_, choose}
 use Rattle.eaters.specs.Look.{ifAt, ifTwo, ifEat}
 use Rattle.basics.specs.Tests.{within}
 use Rattle.classes.specs.Identifiers.{digit, underscore}

@@ -1,15 +1,12 @@
 -- What the letters r, k, b and c begin (000's arms for them, and c_or_byte_string), after the letter.
-use Prim.Native.Nat.{ℕ, zero, suc, pred, _+_, _-_}
-use mathlib.Core.List.{List, [], _∷_}
-use mathlib.Core.Bool.{Bool, true, false, not}
-use lib.ListN.{length, getD}
-use lib.Dec.{ltb, eqb}
-use Rattle.basics.specs.Choice.{pick, and, or}
-use Rattle.eaters.specs.Eat.{Eater, give, nothing, eat, while, _>>=_, _>>_, texted, choose}
+use Prim.Native.Nat.{ℕ}
+use mathlib.Core.Bool.{Bool}
+use Rattle.basics.specs.Choice.{or}
+use Rattle.eaters.specs.Eat.{Eater, give, eat, _>>_}
 use Rattle.eaters.specs.Look.{ifAt, ifTwo, ifEat}
 use Rattle.token.specs.declared.HashCount.{HashCount}
 use Rattle.token.specs.declared.LiteralKind.{LiteralKind}
-use Rattle.token.specs.declared.LiteralKind.the-variants.{Byte, ByteStr, CStr, RawStr, RawByteStr, RawCStr}
+use Rattle.token.specs.declared.LiteralKind.the-variants.{Byte, ByteStr, RawStr, RawByteStr}
 use Rattle.token.specs.declared.TokenKind.{TokenKind}
 use Rattle.token.specs.declared.TokenKind.the-variants.{RawIdent, ForcedKeywordIdent}
 use Rattle.token.specs.Names.{is, '#', 'double', 'single', 'r'}

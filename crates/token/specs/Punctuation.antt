@@ -1,14 +1,11 @@
 -- Tokens of one character, and the prefix of a guarded string (000's one-symbol arms).
-use Prim.Native.Nat.{ℕ, zero, suc, pred, _+_, _-_}
+use Prim.Native.Nat.{ℕ, _+_, _-_}
 use mathlib.Core.List.{List, [], _∷_}
-use mathlib.Core.Bool.{Bool, true, false, not}
-use lib.ListN.{length, getD, take, drop}
-use lib.Dec.{ltb, eqb}
-use Rattle.basics.specs.Choice.{pick, and, or}
-use Rattle.eaters.specs.Eat.{Got, Eater, give, nothing, eat, takeWhile, while, _>>=_, _>>_, texted, choose}
-use Rattle.eaters.specs.Look.{ifAt, ifTwo, ifEat}
+use mathlib.Core.Bool.{Bool, false}
+use lib.Dec.{eqb}
+use Rattle.basics.specs.Choice.{pick, or}
 use Rattle.token.specs.declared.TokenKind.{TokenKind}
-use Rattle.token.specs.declared.TokenKind.the-variants.{GuardedStrPrefix, Semi, Comma, Dot, OpenParen, CloseParen, OpenBrace, CloseBrace, OpenBracket, CloseBracket, At, Pound, Tilde, Question, Colon, Dollar, Eq, Bang, Lt, Gt, Minus, And, Or, Plus, Star, Caret, Percent}
+use Rattle.token.specs.declared.TokenKind.the-variants.{Semi, Comma, Dot, OpenParen, CloseParen, OpenBrace, CloseBrace, OpenBracket, CloseBracket, At, Pound, Tilde, Question, Colon, Dollar, Eq, Bang, Lt, Gt, Minus, And, Or, Plus, Star, Caret, Percent}
 use Rattle.token.specs.Names.{is, 'double', '#'}
 
 -- a character, and the kind of token that it is alone

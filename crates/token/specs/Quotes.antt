@@ -1,12 +1,9 @@
 -- Quoted literals (000's double_quoted_string and single_quoted_string), after the opening quote.
-use Prim.Native.Nat.{ℕ, zero, suc, pred, _+_, _-_}
-use mathlib.Core.List.{List, [], _∷_}
-use mathlib.Core.Bool.{Bool, true, false, not}
-use lib.ListN.{length, getD}
-use lib.Dec.{ltb, eqb}
+use Prim.Native.Nat.{ℕ}
+use mathlib.Core.Bool.{Bool, true, not}
 use Rattle.basics.specs.Choice.{pick, and, or}
-use Rattle.eaters.specs.Eat.{Eater, give, nothing, eat, while, _>>=_, _>>_, texted, choose}
-use Rattle.eaters.specs.Look.{ifAt, ifTwo, ifEat}
+use Rattle.eaters.specs.Eat.{Eater, give, eat, _>>=_, _>>_}
+use Rattle.eaters.specs.Look.{ifTwo}
 use Rattle.eaters.specs.Scan.{Turn, on, off, scan}
 use Rattle.token.specs.declared.LiteralKind.{LiteralKind}
 use Rattle.token.specs.Names.{is, 'newline', 'double', 'single', '/', '\'}

@@ -1,11 +1,10 @@
 -- The raw check (000's validate_raw_str), of the characters after a prefix of ASCII letters.
-use Prim.Native.Nat.{ℕ, zero, suc, pred, _+_, _-_}
+use Prim.Native.Nat.{ℕ, _+_}
 use mathlib.Core.List.{List, [], _∷_}
-use mathlib.Core.Bool.{Bool, true, false, not}
-use lib.ListN.{length, getD, take, drop}
-use lib.Dec.{ltb, eqb}
-use Rattle.basics.specs.Choice.{pick, and, or}
-use Rattle.eaters.specs.Eat.{Got, takeWhile}
+use lib.ListN.{length, drop}
+use lib.Dec.{ltb}
+use Rattle.basics.specs.Choice.{pick, and}
+use Rattle.eaters.specs.Eat.{takeWhile}
 use Rattle.eaters.specs.Scan.{firstWith}
 use Rattle.text.specs.Chars.{width}
 use Rattle.token.specs.declared.Offset.{Offset}

@@ -1,12 +1,11 @@
 -- Raw strings (000's raw_double_quoted_string), after the r.
-use Prim.Native.Nat.{ℕ, zero, suc, pred, _+_, _-_}
-use mathlib.Core.List.{List, [], _∷_}
-use mathlib.Core.Bool.{Bool, true, false, not}
-use lib.ListN.{length, getD}
-use lib.Dec.{ltb, eqb}
-use Rattle.basics.specs.Choice.{pick, and, or}
-use Rattle.eaters.specs.Eat.{Eater, give, nothing, eat, while, _>>=_, _>>_, texted, choose}
-use Rattle.eaters.specs.Look.{ifAt, ifTwo, ifEat}
+use Prim.Native.Nat.{ℕ}
+use mathlib.Core.Bool.{true, false}
+use lib.ListN.{length}
+use lib.Dec.{ltb}
+use Rattle.basics.specs.Choice.{pick, and}
+use Rattle.eaters.specs.Eat.{Eater, give, while, _>>=_, _>>_}
+use Rattle.eaters.specs.Look.{ifEat}
 use Rattle.eaters.specs.Eat.{eatAny}
 use Rattle.eaters.specs.Scan.{firstWith}
 use Rattle.token.specs.declared.HashCount.{HashCount}

@@ -1,9 +1,9 @@
 -- The shebang (000's strip_shebang).
-use Prim.Native.Nat.{ℕ, zero, suc, pred, _+_, _-_}
+use Prim.Native.Nat.{ℕ, _+_}
 use mathlib.Core.List.{List, [], _∷_}
-use mathlib.Core.Bool.{Bool, true, false, not}
-use lib.ListN.{length, getD, take, drop}
-use lib.Dec.{ltb, eqb}
+use mathlib.Core.Bool.{false}
+use lib.ListN.{getD}
+use lib.Dec.{eqb}
 use Rattle.basics.specs.Choice.{pick, and, or}
 use Rattle.eaters.specs.Find.{Place, at, nowhere}
 use Rattle.text.specs.Chars.{width}

@@ -1,16 +1,13 @@
 -- The tokens of a text, without Eof, and their records: kind, length and start in bytes.
-use Prim.Native.Nat.{ℕ, zero, suc, pred, _+_, _-_}
+use Prim.Native.Nat.{ℕ, zero, suc, pred, _+_}
 use mathlib.Core.List.{List, [], _∷_}
-use mathlib.Core.Bool.{Bool, true, false, not}
-use lib.ListN.{length, getD, take, drop}
-use lib.Dec.{ltb, eqb}
-use Rattle.basics.specs.Choice.{pick, and, or}
-use Rattle.eaters.specs.Eat.{Got}
+use mathlib.Core.Bool.{Bool}
+use lib.ListN.{take}
 use Rattle.text.specs.Chars.{chars, size}
 use Rattle.token.specs.declared.TokenKind.{TokenKind}
 use Rattle.token.specs.declared.Token as token
 use Rattle.token.specs.Lists.{Lists}
-use Rattle.token.specs.Advance.{Told, advance}
+use Rattle.token.specs.Advance.{advance}
 
 -- a token with its characters
 pub record Piece : Type 0 where

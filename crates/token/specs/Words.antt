@@ -1,12 +1,9 @@
 -- Identifiers (000's ident_or_unknown_prefix and invalid_ident), after their first character.
-use Prim.Native.Nat.{ℕ, zero, suc, pred, _+_, _-_}
-use mathlib.Core.List.{List, [], _∷_}
-use mathlib.Core.Bool.{Bool, true, false, not}
-use lib.ListN.{length, getD}
-use lib.Dec.{ltb, eqb}
-use Rattle.basics.specs.Choice.{pick, and, or}
-use Rattle.eaters.specs.Eat.{Eater, give, nothing, eat, while, _>>=_, _>>_, texted, choose}
-use Rattle.eaters.specs.Look.{ifAt, ifTwo, ifEat}
+use Prim.Native.Nat.{ℕ}
+use mathlib.Core.Bool.{Bool}
+use Rattle.basics.specs.Choice.{or}
+use Rattle.eaters.specs.Eat.{Eater, give, while, _>>=_, _>>_}
+use Rattle.eaters.specs.Look.{ifAt}
 use Rattle.token.specs.declared.TokenKind.{TokenKind}
 use Rattle.token.specs.declared.TokenKind.the-variants.{Ident, InvalidIdent, UnknownPrefix}
 use Rattle.token.specs.Names.{is, '#', 'double', 'single', 'joiner'}

@@ -1,5 +1,5 @@
 -- What a part that is there tells of its places.
-use Prim.Native.Nat.{ℕ, _+_, _≤_, _<_}
+use Prim.Native.Nat.{ℕ, _+_}
 use mathlib.Core.Path.{_≡_, subst}
 use native.Mathlib.Omega.{arith}
 use Rattle.vectors.specs.declared.Part.{Part}

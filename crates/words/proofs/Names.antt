@@ -1,8 +1,8 @@
 -- Lifetimes, in the facts of the code.
-use Prim.Native.Nat.{ℕ, _+_, _-_, _≤_, _<_}
+use Prim.Native.Nat.{ℕ, _+_, _≤_}
 use mathlib.Core.Path.{_≡_, refl, sym, ap, _∙_}
 use mathlib.Core.Bool.{Bool, true, false}
-use mathlib.Core.List.{List, [], _∷_}
+use mathlib.Core.List.{List, []}
 use lib.ListN.{length, getD, take, drop}
 use mathlib.Core.Logic.{⊎-elim}
 use native.Mathlib.Omega.{arith}
@@ -10,24 +10,23 @@ use borrow.Author.Tests.{ne-eqb, eqb-true}
 use lib.Dec.{eqb}
 use Rattle.text.specs.Chars.{width, size}
 use Rattle.classes.specs.Identifiers.{digit, letter, idStart, idContinue}
-use Rattle.basics.specs.Choice.{pick, and, or}
+use Rattle.basics.specs.Choice.{and, or}
 use Rattle.basics.proofs.Choices.{yes-or-no}
 use Rattle.eaters.proofs.Fits.{there}
-use Rattle.eaters.specs.Eat.{Got, Eater, Read, give, nothing, eat, takeWhile, while, _>>=_, _>>_, texted, choose}
+use Rattle.eaters.specs.Eat.{Eater, Read, give, eat, takeWhile, while, _>>=_, choose}
 use Rattle.eaters.specs.Look.{ifAt, ifTwo, ifEat}
 use Rattle.token.specs.declared.LiteralKind.the-variants.{Char}
 use Rattle.token.specs.declared.TokenKind.{TokenKind}
 use Rattle.token.specs.declared.TokenKind.the-variants.{UnknownPrefixLifetime, RawLifetime, Literal, Lifetime}
 use Rattle.token.specs.Names.{is, '#', 'single', 'r'}
-use Rattle.token.specs.Lists.{Lists, lent, starting, going}
+use Rattle.token.specs.Lists.{lent, starting}
 use Rattle.token.specs.Lifetimes.{lifetimeRest, lifetime, naming, lifetimeOr}
 use Rattle.cursor.specs.declared.Cursor.{Cursor}
-use Rattle.cursor.specs.declared.Kinded.{Kinded}
 use Rattle.cursor.specs.declared.Kinded.the-variants as kinded
 use Rattle.cursor.specs.declared.Scanned.{Scanned}
 use Rattle.cursor.specs.Cursors.{rest}
 use Rattle.cursor.specs.Moved.{Moved}
-use Rattle.cursor.specs.Ran.{left, Ran, kindFrom, Past}
+use Rattle.cursor.specs.Ran.{left, Ran, kindFrom}
 use Rattle.cursor.proofs.Runs.{ran-word, ran-give, ran-bind, ran-then, ran-eat, ran-eat-2, ran-yes, ran-no, ran-take, ran-both, ran-not-both, ran-this, ran-that, ran-texted, ran-bytes}
 use Rattle.cursor.proofs.Loops.{ran-while}
 use Rattle.cursor.proofs.Bytes.{while-bytes, bump-bytes, shifted, past-moved}

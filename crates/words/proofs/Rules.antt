@@ -1,21 +1,19 @@
 -- The rules of words, from the runs of their scans, in the facts of the code.
 use Prim.Native.Nat.{ℕ}
-use mathlib.Core.Path.{_≡_, refl, sym, ap, _∙_}
+use mathlib.Core.Path.{_≡_, refl, sym, _∙_}
 use mathlib.Core.Bool.{Bool, true, false}
-use mathlib.Core.List.{List, [], _∷_}
-use mathlib.Core.Logic.{_⊎_, inl, inr}
+use mathlib.Core.List.{List, []}
 use lib.Dec.{eqb}
 use lib.ListN.{getD, drop}
-use borrow.Author.Tests.{eq-eqb, ne-eqb}
-use Rattle.basics.specs.Choice.{and, or}
+use borrow.Author.Tests.{ne-eqb}
 use Rattle.classes.specs.Identifiers.{idStart, idContinue}
 use Rattle.classes.specs.Emoji.{emojiChar}
-use Rattle.eaters.specs.Eat.{Eater, give, nothing, eat, takeWhile, while, _>>=_, _>>_}
-use Rattle.eaters.specs.Look.{ifAt, ifTwo, ifEat}
+use Rattle.eaters.specs.Eat.{Eater, give, nothing, eat, while, _>>=_, _>>_}
+use Rattle.eaters.specs.Look.{ifAt}
 use Rattle.token.specs.declared.TokenKind.{TokenKind}
 use Rattle.token.specs.declared.TokenKind.the-variants.{Ident, InvalidIdent, UnknownPrefix, ForcedKeywordIdent}
 use Rattle.token.specs.Names.{is, '#'}
-use Rattle.token.specs.Lists.{Lists, lent, starting, going, smiling}
+use Rattle.token.specs.Lists.{lent, starting, going, smiling}
 use Rattle.token.specs.Literals.{identifier}
 use Rattle.token.specs.Words.{inInvalid, invalidIdent, prefixMark, identOrUnknownPrefix}
 use Rattle.token.specs.Prefixed.{afterK}

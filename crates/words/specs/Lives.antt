@@ -3,7 +3,7 @@ use Prim.Native.Nat.{ℕ}
 use mathlib.Core.Path.{_≡_}
 use mathlib.Core.Bool.{Bool, false}
 use mathlib.Core.List.{List, []}
-use Rattle.eaters.specs.Eat.{Got, Eater, give, eat, while, _>>=_, _>>_}
+use Rattle.eaters.specs.Eat.{Eater, give, eat, while, _>>_}
 use Rattle.eaters.specs.Look.{ifTwo}
 use Rattle.token.specs.declared.TokenKind.{TokenKind}
 use Rattle.token.specs.declared.TokenKind.the-variants.{RawLifetime}

@@ -1,7 +1,7 @@
 -- `replay::nine` meets its contract. Every place lies within the file, and every loop ends.
 use lib.ListN.{length}
 use mathlib.Core.Path.{_≡_}
-use Prim.Native.Nat.{_≤_, _-_}
+use Prim.Native.Nat.{_-_}
 use borrow.Author.Needs.{needs}
 use Rattle.replay.proofs.nine.Statement.{statement}
 use Rattle.replay.proofs.nine.Tie as tie

@@ -2,7 +2,7 @@
 use Rattle.text.proofs.Places.{Reached, reached-none, char-room, char-less, reached-more, reached-end, reached-ill}
 use native.Mathlib.Omega.{arith}
 use lib.ListN.{length}
-use Prim.Native.Nat.{_+_, _-_, _≤_}
+use Prim.Native.Nat.{_-_}
 use borrow.Author.Needs.{needs}
 use Rattle.text.proofs.check_utf8.Statement.{statement}
 use Rattle.text.proofs.check_utf8.Tie as tie
