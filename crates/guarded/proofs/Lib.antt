@@ -1,0 +1,3 @@
+mod Strings
+mod Guesses
+mod Checks
