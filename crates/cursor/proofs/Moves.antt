@@ -1,16 +1,16 @@
 -- Moves of a cursor, in the facts that the code's checks hand over.
-use Prim.Native.Nat.{ℕ, _+_, _<_}
+use Prim.Native.Nat.{ℕ, _+_, _≤_, _<_}
 use mathlib.Core.Path.{_≡_, sym, ap, subst, _∙_}
 use mathlib.Core.List.{List, [], _∷_}
 use mathlib.Core.Bool.{true, false}
 use lib.ListN.{length, getD, drop, length-drop}
-use lib.Seq.{getD-drop}
+use lib.Seq.{drop-drop, getD-drop}
 use native.Mathlib.Omega.{arith}
 use Rattle.cursor.specs.declared.Cursor.{Cursor}
 use Rattle.cursor.specs.declared.Step.{Step}
 use Rattle.cursor.specs.declared.Step.the-variants.{Got, Over}
 use Rattle.cursor.specs.Cursors.{rest, isOver, Here, Seen, char, end}
-use Rattle.cursor.specs.Moved.{Moved, start, over, left-of, onward, arrive}
+use Rattle.cursor.specs.Moved.{Moved, start, over, left-of, onward, arrive, then}
 
 -- a peek whose case is known
 here : {s : List ℕ} {c : Cursor} {x : ℕ} {d : Cursor} → Seen s c (Got x d) → Here s c x d
@@ -81,3 +81,20 @@ module _ {s : List ℕ} {b d : Cursor} {x : ℕ} (e : x ≡ getD (rest s b) 0 0)
 
 pub settled : {s : List ℕ} {a b : Cursor} {cs : List ℕ} → Moved s a b cs → Moved s a b (rest s b)
 settled m = arrive m (sym (left-of m))
+
+-- past some characters, one by one: n of k are passed
+pub record Eating (k : ℕ) (s : List ℕ) (a b : Cursor) (n : ℕ) : Type 0 where
+  pub moved : Moved s a b (drop n (rest s a))
+  pub few : n ≤ k
+
+pub eating-none : (k : ℕ) (s : List ℕ) (a : Cursor) → Eating k s a a 0
+eating-none k s a = record { moved = start s a; few = omega arith }
+
+module _ {k : ℕ} {s : List ℕ} {a b : Cursor} {n : ℕ} (i : Eating k s a b n) where
+  pub eating-more : {d : Cursor} → n < k → Moved s b d (drop 1 (rest s b)) → Eating k s a d (n + 1)
+  eating-more l m = record { moved = arrive (then (drop 1) (i .moved) m) (drop-drop 1 n (rest s a)); few = omega arith }
+
+  pub eating-done : k ≤ n → Moved s a b (drop k (rest s a))
+  eating-done l =
+      let e : n ≡ k = omega (arith, i .few) in
+      subst (λ (j : ℕ). Moved s a b (drop j (rest s a))) e (i .moved)

@@ -49,13 +49,12 @@ ran-then {A} {B} {m} {k} p q = ran-bind (λ (x : A). k) p q
 pub ran-say : {A B : Type 0} {m : Eater A} (f : A → B) {s : List ℕ} {a b : Cursor} {x : A} → Ran m s a b x → Ran (m >>= (λ (x : A). give (f x))) s a b (f x)
 ran-say {A} {B} {m} f {s} {a} {b} {x} p = ran-bind (λ (x : A). give (f x)) p (ran-give (f x) s b)
 
-pub ran-eat : {s : List ℕ} {a b : Cursor} → Moved s a b (drop 1 (rest s a)) → Ran (eat 1) s a b tt
+pub ran-eats : (n : ℕ) {s : List ℕ} {a b : Cursor} → Moved s a b (drop n (rest s a)) → Ran (eat n) s a b tt
 unfolding eat
-ran-eat m = record { moved = m; said = refl }
+ran-eats n m = record { moved = m; said = refl }
 
-pub ran-eat-2 : {s : List ℕ} {a b d : Cursor} → Moved s a b (drop 1 (rest s a)) → Moved s b d (drop 1 (rest s b)) → Ran (eat 2) s a d tt
-unfolding eat
-ran-eat-2 {s} {a} m n = record { moved = rw (← drop-drop 1 1 (rest s a)) (then (drop 1) m n); said = refl }
+pub ran-eat : {s : List ℕ} {a b : Cursor} → Moved s a b (drop 1 (rest s a)) → Ran (eat 1) s a b tt
+ran-eat m = ran-eats 1 m
 
 -- the next character is of p, or is not
 module _ {A : Type 0} (this that : Eater A) (p : ℕ → Bool) {s : List ℕ} {a b : Cursor} {c : ℕ} {x : A} (e : c ≡ getD (rest s a) 0 0) where

@@ -93,6 +93,19 @@ impl Cursor {
         }
     }
 
+    // Past the next `count` characters, as far as there are some.
+    pub fn eat(self, text: &[u8], count: usize) -> Cursor
+        ensures { λ r. ⌜ Moved (now (text .entry)) self r (drop count (rest (now (text .entry)) self)) ⌝ }
+    {
+        let mut cur = self;
+        let mut done: usize = 0;
+        while done < count {
+            cur = cur.bump(text);
+            done += 1;
+        }
+        cur
+    }
+
     // The second next character; 0 where there is none.
     pub fn second(self, text: &[u8]) -> CodePoint
         ensures { λ r. ⌜ r ≡ getD (rest (now (text .entry)) self) 1 0 ⌝ }

@@ -17,7 +17,7 @@ use Rattle.cursor.specs.Cursors.{rest, Seen}
 use Rattle.cursor.specs.Moved.{Moved}
 use Rattle.cursor.specs.Ran.{Ran}
 use Rattle.cursor.proofs.Moves.{char-at, end-at}
-use Rattle.cursor.proofs.Runs.{ran-give, ran-then, ran-eat-2, ran-both, ran-not-both}
+use Rattle.cursor.proofs.Runs.{ran-give, ran-then, ran-eats, ran-both, ran-not-both}
 use Rattle.cursor.proofs.Loops.{Inside, inside-on, inside-skip, inside-off, inside-over, inside-found}
 
 -- the text ends
@@ -82,5 +82,5 @@ module _ {s : List ℕ} {a : Cursor} {d : ℕ} (f : d ≡ getD (rest s a) 1 0) w
     pub single-escaped : {b : Cursor} {t : Bool} → c ≡ 0x5C → Ran (scan singleTurn 0 1) s a b t → Ran single s a b t
     single-escaped q r = ran-not-both _ (scan singleTurn 0 1) unescaped (is 'single') e f (rw q) r
 
-    pub single-one : {b n : Cursor} → (c ≡ 0x5C → ⊥) → Moved s a b (drop 1 (rest s a)) → Moved s b n (drop 1 (rest s b)) → Ran single s a n true
-    single-one {b} {n} q m k = ran-both (eat 2 >> give true) _ unescaped (is 'single') e f (rw (ne-eqb c 0x5C q, p)) (ran-then (ran-eat-2 m k) (ran-give true s n))
+    pub single-one : {n : Cursor} → (c ≡ 0x5C → ⊥) → Moved s a n (drop 2 (rest s a)) → Ran single s a n true
+    single-one {n} q m = ran-both (eat 2 >> give true) _ unescaped (is 'single') e f (rw (ne-eqb c 0x5C q, p)) (ran-then (ran-eats 2 m) (ran-give true s n))

@@ -90,9 +90,8 @@ pub fn single_quoted_string(text: &[u8], from: Cursor) -> Ended
     if c == 0x5C {
         return single_rest(text, from);
     }
-    let quote = from.bump(text);
     Ended {
-        next: quote.bump(text),
+        next: from.eat(text, 2),
         terminated: true,
     }
 }

@@ -27,7 +27,7 @@ use Rattle.cursor.specs.declared.Scanned.{Scanned}
 use Rattle.cursor.specs.Cursors.{rest}
 use Rattle.cursor.specs.Moved.{Moved}
 use Rattle.cursor.specs.Ran.{left, Ran, kindFrom}
-use Rattle.cursor.proofs.Runs.{ran-word, ran-give, ran-bind, ran-then, ran-eat, ran-eat-2, ran-yes, ran-no, ran-take, ran-both, ran-not-both, ran-this, ran-that, ran-texted, ran-bytes}
+use Rattle.cursor.proofs.Runs.{ran-word, ran-give, ran-bind, ran-then, ran-eat, ran-eats, ran-yes, ran-no, ran-take, ran-both, ran-not-both, ran-this, ran-that, ran-texted, ran-bytes}
 use Rattle.cursor.proofs.Loops.{ran-while}
 use Rattle.cursor.proofs.Bytes.{while-bytes, bump-bytes, shifted, past-moved}
 use Rattle.words.specs.Lives.{RestRan, rawName, afterR, RawRan, LifeRan, found, other}
@@ -72,8 +72,8 @@ module _ (l : List ℕ) (b : Bool) {s : List ℕ} {a n : Cursor} (m : Moved s a 
       lifetime-in h = record { past = tt; ran = λ before. open-end before (ran-that _ _ f (ran-no _ (give (Lifetime false)) (is '#') e (ne-eqb c 0x23 h) (ran-give (Lifetime false) s n))) }
 
 -- a raw name, from its hash on
-pub raw-name-in : (l : List ℕ) {s : List ℕ} {a b c d : Cursor} → Moved s a b (drop 1 (rest s a)) → Moved s b c (drop 1 (rest s b)) → Moved s c d (left (while (idContinue l)) (rest s c)) → Ran (rawName l) s a d RawLifetime
-raw-name-in l {s} {d = d} m n k = ran-then (ran-then (ran-eat-2 m n) (ran-while (idContinue l) k)) (ran-give RawLifetime s d)
+pub raw-name-in : (l : List ℕ) {s : List ℕ} {a c d : Cursor} → Moved s a c (drop 2 (rest s a)) → Moved s c d (left (while (idContinue l)) (rest s c)) → Ran (rawName l) s a d RawLifetime
+raw-name-in l {s} {d = d} m k = ran-then (ran-then (ran-eats 2 m) (ran-while (idContinue l) k)) (ran-give RawLifetime s d)
 
 -- after an r
 module _ (i l : List ℕ) {s : List ℕ} {a : Cursor} {c : ℕ} (e : c ≡ getD (rest s a) 0 0) where

@@ -204,8 +204,7 @@ fn raw_lifetime(text: &[u8], from: Cursor, continues: &[u32]) -> Cursor
     requires { ⌜ Good (now continues) ⌝ }
     ensures { λ r. ⌜ Ran (rawName (now (continues .entry))) (now (text .entry)) from r RawLifetime ⌝ }
 {
-    let start = from.bump(text);
-    eat_continue(text, start.bump(text), continues)
+    eat_continue(text, from.eat(text, 2), continues)
 }
 
 // What a quote and an r begin, after them: a raw lifetime, or the rest of a name.

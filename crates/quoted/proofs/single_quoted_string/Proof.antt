@@ -22,11 +22,8 @@ single-rest-requires-2 c κs = search needs
 returns-2 : tie.Need-returns-2
 returns-2 c = search single-escaped
 
-bump-requires : tie.Need-bump-requires
-bump-requires c κs = search needs
-
-bump-requires-2 : tie.Need-bump-requires-2
-bump-requires-2 c κs = search needs
+eat-requires : tie.Need-eat-requires
+eat-requires c κs = search needs
 
 returns-3 : tie.Need-returns-3
 returns-3 c = search single-one
@@ -41,6 +38,5 @@ single-quoted-string-spec =
     first-requires
     single-rest-requires-2
     returns-2
-    bump-requires
-    bump-requires-2
+    eat-requires
     returns-3)
