@@ -8,7 +8,7 @@ ghost use Rattle.basics.specs.Tests.{all};
 ghost use Rattle.text.specs.Chars.{chars};
 ghost use Rattle.lists.specs.Rules.{Good};
 ghost use Rattle.classes.specs.Whitespace.{isWhitespace, isHorizontalWhitespace};
-ghost use Rattle.classes.specs.Identifiers.{idStart, idContinue, isIdent};
+ghost use Rattle.classes.specs.Identifiers.{digit, idStart, idContinue, isIdent};
 ghost use Rattle.classes.specs.Emoji.{emojiChar};
 ghost use Rattle.classes.specs.Answers.{answerNumbers, idStartAnswer, idContinueAnswer, emojiAnswer, identVerdict, identAnswer};
 use refusal::Bad;
@@ -78,6 +78,13 @@ fn letter(c: CodePoint) -> bool
         0x61..=0x7A => true,
         _ => false,
     }
+}
+
+// Whether c is a decimal digit.
+pub fn is_digit(c: CodePoint) -> bool
+    ensures { λ r. ⌜ r ≡ digit c ⌝ }
+{
+    if 0x30 <= c { c <= 0x39 } else { false }
 }
 
 // Whether c starts an identifier.

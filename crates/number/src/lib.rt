@@ -37,16 +37,10 @@ fn is_within(c: CodePoint, low: CodePoint, high: CodePoint) -> bool
     if low <= c { c <= high } else { false }
 }
 
-fn is_digit(c: CodePoint) -> bool
-    ensures { λ r. ⌜ r ≡ digit c ⌝ }
-{
-    is_within(c, 0x30, 0x39)
-}
-
 fn is_hex_digit(c: CodePoint) -> bool
     ensures { λ r. ⌜ r ≡ hexDigit c ⌝ }
 {
-    if is_digit(c) {
+    if classes::is_digit(c) {
         return true;
     }
     if is_within(c, 0x61, 0x66) {
@@ -64,7 +58,7 @@ pub fn eat_decimal_digits(text: &[u8], from: Cursor) -> Digits
     loop {
         match cur.peek(text) {
             Step::Got(c, next) => {
-                if is_digit(c) {
+                if classes::is_digit(c) {
                     some = true;
                     cur = next;
                 } else {
@@ -170,7 +164,7 @@ fn after_point(text: &[u8], from: Cursor, base: Base) -> Numeral
         empty_exponent: false,
     };
     let c = from.first(text);
-    if is_digit(c) {
+    if classes::is_digit(c) {
         let t = eat_decimal_digits(text, from);
         let next = t.next;
         return maybe_exponent(text, next, base, kind);

@@ -3,7 +3,7 @@
 ghost use mathlib.Core.Path.{_≡_};
 ghost use mathlib.Core.List.{[]};
 ghost use Rattle.lists.specs.Rules.{Good};
-ghost use Rattle.classes.specs.Identifiers.{digit, idContinue};
+ghost use Rattle.classes.specs.Identifiers.{idContinue};
 ghost use Rattle.eaters.specs.Eat.{while};
 ghost use Rattle.token.specs.Lists.{lent};
 ghost use Rattle.token.specs.Literals.{identifier};
@@ -226,12 +226,6 @@ fn after_quote_r(text: &[u8], from: Cursor, starts: &[u32], continues: &[u32]) -
     lifetime_rest(text, from, false, continues)
 }
 
-fn is_digit(c: CodePoint) -> bool
-    ensures { λ r. ⌜ r ≡ digit c ⌝ }
-{
-    if 0x30 <= c { c <= 0x39 } else { false }
-}
-
 // What a quote begins, after it, if it is a lifetime or a name that a quote closes.
 pub fn lifetime(text: &[u8], from: Cursor, starts: &[u32], continues: &[u32]) -> Life
     requires { ⌜ Good (now starts) × Good (now continues) ⌝ }
@@ -245,7 +239,7 @@ pub fn lifetime(text: &[u8], from: Cursor, starts: &[u32], continues: &[u32]) ->
     if c == 0x72 {
         return Life::Found(after_quote_r(text, from.bump(text), starts, continues));
     }
-    if is_digit(c) {
+    if classes::is_digit(c) {
         return Life::Found(lifetime_rest(text, from.bump(text), true, continues));
     }
     if classes::id_start(c, starts) {

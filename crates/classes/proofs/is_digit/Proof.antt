@@ -1,8 +1,8 @@
--- `words::is_digit` meets its contract. By the range.
+-- `classes::is_digit` meets its contract. By the range.
 use borrow.Author.Tests.{le-leb, lt-leb}
 use borrow.Author.Needs.{needs}
-use Rattle.words.proofs.is_digit.Statement.{statement}
-use Rattle.words.proofs.is_digit.Tie as tie
+use Rattle.classes.proofs.is_digit.Statement.{statement}
+use Rattle.classes.proofs.is_digit.Tie as tie
 
 returns : tie.Need-returns
 returns c = search (needs, le-leb, lt-leb)
