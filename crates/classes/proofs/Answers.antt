@@ -4,6 +4,7 @@ use mathlib.Core.Bool.{Bool}
 use Rattle.classes.specs.declared.Answer.{Answer}
 use Rattle.classes.proofs.is_whitespace.Reads as whitespace
 use Rattle.classes.proofs.is_horizontal_whitespace.Reads as horizontal
+use Rattle.classes.proofs.is_digit.Reads as decimal
 use Rattle.classes.proofs.is_id_start.Reads as start
 use Rattle.classes.proofs.is_id_continue.Reads as continue
 use Rattle.classes.proofs.is_emoji_char.Reads as emoji
@@ -26,3 +27,6 @@ one-emoji κs a r q x y p e = p ∙ sym e
 
 pub one-ident : (κs : _) (a : _) (r q : Answer) (x y : _) → ident.Post κs a r x → ident.Post κs a q y → r ≡ q
 one-ident κs a r q x y p e = p ∙ sym e
+
+pub one-digit : (κs : _) (a : _) (r q : Bool) (x y : _) → decimal.Post κs a r x → decimal.Post κs a q y → r ≡ q
+one-digit κs a r q x y p e = p ∙ sym e
