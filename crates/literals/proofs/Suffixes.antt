@@ -6,7 +6,7 @@ use mathlib.Core.List.{List}
 use lib.ListN.{take}
 use native.Mathlib.Omega.{arith}
 use Rattle.text.specs.Chars.{size}
-use Rattle.eaters.specs.Eat.{Eater, Read, give, nothing, _>>_, choose}
+use Rattle.eaters.specs.Eat.{Eater, Read, give, nothing, _>>=_, _>>_, choose}
 use Rattle.eaters.specs.Scan.{scan}
 use Rattle.eaters.proofs.Fits.{Fits}
 use Rattle.token.specs.declared.HashCount.{HashCount}
@@ -48,20 +48,29 @@ module _ (L : Lists) (m : Eater Body) (f : Fits 0 m) {s : List ℕ} {a b : Curso
             (ap (kindFrom before a) (q .kind) ∙ ap (kind.Literal (x .kind)) (omega arith));
       }
 
+-- a quoted literal, whatever reads it
+module _ (L : Lists) (m : Eater Bool) (mk : Bool → LiteralKind) (f : Fits 0 (m >>= (λ (t : Bool). give (quoted mk t)))) {s : List ℕ} {a b : Cursor} {t : Bool} {k : LiteralKind} {r : Scanned} where
+  quoted-in : Ran m s a b t → k ≡ mk t → SuffixRan L k t s b r → LiteralRan L (m >>= (λ (t : Bool). give (quoted mk t))) s a r
+  quoted-in p e q = literal-in L _ f (ran-say (quoted mk) p) (subst (λ (j : LiteralKind). SuffixRan L j t s b r) e q)
+
 module _ (L : Lists) {s : List ℕ} {a b : Cursor} {t : Bool} {k : LiteralKind} {r : Scanned} where
   pub single-in : (mk : Bool → LiteralKind) → Ran single s a b t → k ≡ mk t → SuffixRan L k t s b r → LiteralRan L (singleQuoted mk) s a r
-  single-in mk p e q = literal-in L (singleQuoted mk) (fits-single mk) (ran-say (quoted mk) p) (subst (λ (j : LiteralKind). SuffixRan L j t s b r) e q)
+  single-in mk = quoted-in L single mk (fits-single mk)
 
   pub double-in : (mk : Bool → LiteralKind) → Ran (scan doubleTurn 0 1) s a b t → k ≡ mk t → SuffixRan L k t s b r → LiteralRan L (doubleQuoted mk) s a r
-  double-in mk p e q = literal-in L (doubleQuoted mk) (fits-double mk) (ran-say (quoted mk) p) (subst (λ (j : LiteralKind). SuffixRan L j t s b r) e q)
+  double-in mk = quoted-in L (scan doubleTurn 0 1) mk (fits-double mk)
 
 pub number-in : (L : Lists) (c : ℕ) {s : List ℕ} {a b : Cursor} {k : LiteralKind} {r : Scanned} → Ran (number L c) s a b (record { kind = k; suffixed = true }) → SuffixRan L k true s b r → LiteralRan L (number L c) s a r
 number-in L c p q = literal-in L (number L c) (fits-number L c) p q
 
 -- a raw string: with a count, a suffix is read
 module _ (L : Lists) (mk : HashCount → LiteralKind) {s : List ℕ} {a : Cursor} {x : RawQuoted} {k : LiteralKind} {r : Scanned} (p : RawRan s a x) (e : k ≡ mk (x .count)) where
+  raw-in : {n : HashCount} {t : Bool} → x .count ≡ n → rawBody mk n ≡ record { kind = mk n; suffixed = t } → SuffixRan L k t s (x .next) r → LiteralRan L (rawString mk) s a r
+  raw-in {n} {t} h w q =
+      literal-in L (rawString mk) (fits-raw mk) (ran-word (p .ran mk) (sym w ∙ sym (ap (rawBody mk) h))) (subst (λ (j : LiteralKind). SuffixRan L j t s (x .next) r) (e ∙ ap mk h) q)
+
   pub raw-counted : {n : ℕ} → x .count ≡ Of n → SuffixRan L k true s (x .next) r → LiteralRan L (rawString mk) s a r
-  raw-counted {n} h q = literal-in L (rawString mk) (fits-raw mk) (ran-word (p .ran mk) (sym (ap (rawBody mk) h))) (subst (λ (j : LiteralKind). SuffixRan L j true s (x .next) r) (e ∙ ap mk h) q)
+  raw-counted h = raw-in h refl
 
   pub raw-uncounted : x .count ≡ NoCount → SuffixRan L k false s (x .next) r → LiteralRan L (rawString mk) s a r
-  raw-uncounted h q = literal-in L (rawString mk) (fits-raw mk) (ran-word (p .ran mk) (sym (ap (rawBody mk) h))) (subst (λ (j : LiteralKind). SuffixRan L j false s (x .next) r) (e ∙ ap mk h) q)
+  raw-uncounted h = raw-in h refl
