@@ -1,0 +1,3 @@
+mod Arms
+mod Fronts
+mod Stays

@@ -1,0 +1,5 @@
+mod Patterns
+mod Seeks
+mod Fences
+mod Recoveries
+mod Rules
