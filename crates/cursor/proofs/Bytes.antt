@@ -42,11 +42,11 @@ bump-bytes {s} {b} {d} {x} e h m =
     ran-bytes (eat 1) (ran-eat m) n ∙ ap (λ (l : List ℕ). b .at + size l) t ∙ omega arith
 
 -- the kind of a token, some bytes further on
-pub shifted : (k : Kinded) (n w : ℕ) (a b : Cursor) → Past b k → b .at ≡ a .at + w → kindFrom n a k ≡ kindFrom (n + w) b k
-shifted (Plain k) n w a b p e = refl
-shifted (Literal k d) n w a b p e = ap (kind.Literal k) (omega arith)
+pub shifted : (k : Kinded) (n w : ℕ) (a b c : Cursor) → Past b c k → b .at ≡ a .at + w → kindFrom n a k ≡ kindFrom (n + w) b k
+shifted (Plain k) n w a b c p e = refl
+shifted (Literal k d) n w a b c p e = ap (kind.Literal k) (omega (arith, p .from))
 
 -- a suffix that does not start before b does not start before a, whence the cursor came
-pub past-moved : (k : Kinded) {s cs : List ℕ} {a b : Cursor} → Past b k → Moved s a b cs → Past a k
-past-moved (Plain k) p m = tt
-past-moved (Literal k d) {a = a} {b} p m = omega (arith, p, passed m .bytes)
+pub past-moved : (k : Kinded) (c : Cursor) {s cs : List ℕ} {a b : Cursor} → Past b c k → Moved s a b cs → Past a c k
+past-moved (Plain k) c p m = tt
+past-moved (Literal k d) c {a = a} {b} p m = record { from = omega (arith, p .from, passed m .bytes); to = p .to }

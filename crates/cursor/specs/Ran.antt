@@ -26,7 +26,11 @@ abbrev pub kindFrom : (before : ℕ) → Cursor → Kinded → TokenKind
 kindFrom before c (Plain k) = k
 kindFrom before c (Literal k d) = kind.Literal k (before + (d .at - c .at))
 
--- a suffix does not start before c
-abbrev pub Past : Cursor → Kinded → Type 0
-Past c (Plain k) = Unit {0}
-Past c (Literal k d) = c .at ≤ d .at
+-- a suffix does not start before c, nor past n
+pub record Between (c d n : Cursor) : Type 0 where
+  pub from : c .at ≤ d .at
+  pub to : d .at ≤ n .at
+
+abbrev pub Past : (c n : Cursor) → Kinded → Type 0
+Past c n (Plain k) = Unit {0}
+Past c n (Literal k d) = Between c d n

@@ -23,6 +23,7 @@ use Rattle.cursor.specs.declared.Cursor.{Cursor}
 use Rattle.cursor.specs.declared.Kinded.the-variants.{Literal}
 use Rattle.cursor.specs.declared.Scanned.{Scanned}
 use Rattle.cursor.specs.Cursors.{rest}
+use Rattle.cursor.specs.Moved.{passed}
 use Rattle.cursor.specs.Ran.{Ran, kindFrom, Past}
 use Rattle.cursor.proofs.Runs.{ran-word, ran-give, ran-bind, ran-then, ran-say, ran-texted, ran-this, ran-that, ran-bytes}
 use Rattle.quoted.specs.declared.RawQuoted.{RawQuoted}
@@ -42,7 +43,7 @@ module _ (L : Lists) (m : Eater Body) (f : Fits 0 m) {s : List ℕ} {a b : Curso
   literal-in p q =
       let n : b .at ≡ a .at + size (take (m (rest s a) .took) (rest s a)) = ran-bytes m p (f .fits (rest s a) (omega arith)) in
       record {
-        past = subst (Past a) (sym (q .kind)) (omega arith);
+        past = subst (Past a (r .next)) (sym (q .kind)) (record { from = omega arith; to = omega (arith, passed (q .ran .moved) .bytes) });
         ran = λ before. ran-word
             (ran-bind (λ (y : Read Body). choose (y .said .suffixed) (identifier L) nothing >> give (kind.Literal (y .said .kind) (before + size (y .text)))) (ran-texted p) (ran-then (q .ran) (ran-give _ s (r .next))))
             (ap (kindFrom before a) (q .kind) ∙ ap (kind.Literal (x .kind)) (omega arith));

@@ -38,5 +38,5 @@ pub record SuffixRan (L : Lists) (k : LiteralKind) (suffixed : Bool) (s : List �
 
 -- a literal of which any number of bytes is taken before
 pub record LiteralRan (L : Lists) (body : Eater Body) (s : List ℕ) (from : Cursor) (r : Scanned) : Type 0 where
-  pub past : Past from (r .kind)
+  pub past : Past from (r .next) (r .kind)
   pub ran : (before : ℕ) → Ran (literal L before body) s from (r .next) (kindFrom before from (r .kind))

@@ -68,10 +68,10 @@ first-tells c k u n = rw (ne-eqb c k n)
 -- A LITERAL AFTER ONE MORE CHARACTER of one byte
 module _ (L : Lists) (body : Eater Body) {s : List ℕ} {a b : Cursor} {c : ℕ} {r : Scanned} (e : c ≡ getD (rest s a) 0 0) (m : Moved s a b (drop 1 (rest s a))) (q : LiteralRan L body s b r) where
   on : 0 < c → width c ≡ 1 → Ran (literal L 2 body) s b (r .next) (kindFrom 1 a (r .kind))
-  on p w = ran-word (q .ran 2) (shifted (r .kind) 1 1 a b (q .past) (bump-bytes e p m ∙ ap (λ (k : ℕ). a .at + k) w))
+  on p w = ran-word (q .ran 2) (shifted (r .kind) 1 1 a b (r .next) (q .past) (bump-bytes e p m ∙ ap (λ (k : ℕ). a .at + k) w))
 
-  on-past : Past a (r .kind)
-  on-past = past-moved (r .kind) (q .past) m
+  on-past : Past a (r .next) (r .kind)
+  on-past = past-moved (r .kind) (r .next) (q .past) m
 
 -- AFTER r
 module _ (i l n : List ℕ) {s : List ℕ} {a : Cursor} {c d : ℕ} {t : Bool} (e : c ≡ getD (rest s a) 0 0) (f : d ≡ getD (rest s a) 1 0) (g : t ≡ and (is '#' c) (idStart i d)) where

@@ -9,5 +9,5 @@ use Rattle.cursor.specs.Ran.{Ran, kindFrom, Past}
 
 -- by the rule m, after a character of one byte
 pub record Begun (m : Eater TokenKind) (s : List ℕ) (from : Cursor) (r : Scanned) : Type 0 where
-  pub past : Past from (r .kind)
+  pub past : Past from (r .next) (r .kind)
   pub ran : Ran m s from (r .next) (kindFrom 1 from (r .kind))

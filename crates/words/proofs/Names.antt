@@ -51,7 +51,7 @@ module _ (l : List ℕ) (b : Bool) {s : List ℕ} {a n : Cursor} (m : Moved s a 
       let w : width c ≡ 1 = ap width h in
       let q : d .at ≡ n .at + width c = bump-bytes e (omega arith) k in
       record {
-        past = omega arith;
+        past = record { from = omega arith; to = omega arith };
         ran = λ before. ran-word (named before (ran-take (give _) _ (is 'single') e (rw h) k (ran-give _ s d)))
             (ap (Literal (Char true)) (omega arith));
       }
@@ -140,7 +140,7 @@ module _ (i l : List ℕ) {s : List ℕ} {a : Cursor} {c d : ℕ} (f : d ≡ get
   found-r {b} {r} h m g =
       let w : width c ≡ 1 = ap width h in
       let n : b .at ≡ a .at + 1 = bump-bytes e (omega arith) m ∙ ap (λ (k : ℕ). a .at + k) w in
-      found (past-moved (r .kind) (g .past) m) (λ char. past-two char (ran-take (afterR i l) _ (is 'r') e (rw h) m (ran-word (g .ran) (shifted (r .kind) 1 1 a b (g .past) n))))
+      found (past-moved (r .kind) (r .next) (g .past) m) (λ char. past-two char (ran-take (afterR i l) _ (is 'r') e (rw h) m (ran-word (g .ran) (shifted (r .kind) 1 1 a b (r .next) (g .past) n))))
 
   -- a name, from its first character on
   named-on : {b : Cursor} {r : Scanned} (t : Bool) → 1 ≤ length (rest s a) → Moved s a b (drop 1 (rest s a)) → RestRan l t s b r → Ran (lifetime (lent i l []) t) s a (r .next) (kindFrom 1 a (r .kind))
@@ -148,15 +148,15 @@ module _ (i l : List ℕ) {s : List ℕ} {a : Cursor} {c d : ℕ} (f : d ≡ get
   named-on {b} {r} t o m g =
       let n : b .at ≡ a .at + size (take 1 (rest s a)) = ran-bytes (eat 1) (ran-eat m) o in
       ran-bind (λ (x : Read (Unit {0})). lifetimeRest (lent i l []) t (1 + size (x .text))) (ran-texted (ran-eat m))
-      (ran-word (g .ran (1 + size (take 1 (rest s a)))) (shifted (r .kind) 1 (size (take 1 (rest s a))) a b (g .past) n))
+      (ran-word (g .ran (1 + size (take 1 (rest s a)))) (shifted (r .kind) 1 (size (take 1 (rest s a))) a b (r .next) (g .past) n))
 
   module _ (z : c ≡ 0x72 → ⊥) {t : Bool} (g : t ≡ digit c) where
     pub found-digit : {b : Cursor} {r : Scanned} → t ≡ true → Moved s a b (drop 1 (rest s a)) → RestRan l true s b r → LifeRan i l s a (life.Found r)
     found-digit {r = y} h m r =
         let o : 1 ≤ length (rest s a) = there digit refl (rest s a) 0 (ap digit (sym e) ∙ sym g ∙ h) in
-        found (past-moved (y .kind) (r .past) m) (λ char. past-two char (ran-no _ _ (is 'r') e (ne-eqb c 0x72 z) (ran-yes (lifetime (lent i l []) true) _ digit e (sym g ∙ h) (named-on true o m r))))
+        found (past-moved (y .kind) (y .next) (r .past) m) (λ char. past-two char (ran-no _ _ (is 'r') e (ne-eqb c 0x72 z) (ran-yes (lifetime (lent i l []) true) _ digit e (sym g ∙ h) (named-on true o m r))))
 
     pub found-name : {b : Cursor} {r : Scanned} {u : Bool} → t ≡ false → u ≡ idStart i c → u ≡ true → Moved s a b (drop 1 (rest s a)) → RestRan l false s b r → LifeRan i l s a (life.Found r)
     found-name {r = y} h k v m r =
         let o : 1 ≤ length (rest s a) = there (starting (lent i l [])) (unfold idStart letter in refl) (rest s a) 0 (ap (idStart i) (sym e) ∙ sym k ∙ v) in
-        found (past-moved (y .kind) (r .past) m) (λ char. past-two char (ran-no _ _ (is 'r') e (ne-eqb c 0x72 z) (ran-no _ _ digit e (sym g ∙ h) (ran-yes (lifetime (lent i l []) false) char (starting (lent i l [])) e (sym k ∙ v) (named-on false o m r)))))
+        found (past-moved (y .kind) (y .next) (r .past) m) (λ char. past-two char (ran-no _ _ (is 'r') e (ne-eqb c 0x72 z) (ran-no _ _ digit e (sym g ∙ h) (ran-yes (lifetime (lent i l []) false) char (starting (lent i l [])) e (sym k ∙ v) (named-on false o m r)))))

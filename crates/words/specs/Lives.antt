@@ -19,7 +19,7 @@ use Rattle.words.specs.declared.Life.the-variants.{Found, Char}
 
 -- the rest of a name, of which any number of bytes is taken before
 pub record RestRan (continues : List ℕ) (numbered : Bool) (s : List ℕ) (from : Cursor) (r : Scanned) : Type 0 where
-  pub past : Past from (r .kind)
+  pub past : Past from (r .next) (r .kind)
   pub ran : (before : ℕ) → Ran (lifetimeRest (lent [] continues []) numbered before) s from (r .next) (kindFrom before from (r .kind))
 
 -- the start of an identifier after a hash, and what goes on in it
@@ -33,10 +33,10 @@ afterR starts continues =
     ifTwo (is '#') (starting L) (eat 2 >> while (going L) >> give RawLifetime) (lifetimeRest L false 2)
 
 pub record RawRan (starts continues s : List ℕ) (from : Cursor) (r : Scanned) : Type 0 where
-  pub past : Past from (r .kind)
+  pub past : Past from (r .next) (r .kind)
   pub ran : Ran (afterR starts continues) s from (r .next) (kindFrom 2 from (r .kind))
 
 -- a lifetime was found, whatever a quote begins otherwise; or that is what it begins
 pub data LifeRan (starts continues s : List ℕ) (from : Cursor) : Life → Type 0 where
-  found : {r : Scanned} → Past from (r .kind) → ((char : Eater TokenKind) → Ran (lifetimeOr (lent starts continues []) char) s from (r .next) (kindFrom 1 from (r .kind))) → LifeRan starts continues s from (Found r)
+  found : {r : Scanned} → Past from (r .next) (r .kind) → ((char : Eater TokenKind) → Ran (lifetimeOr (lent starts continues []) char) s from (r .next) (kindFrom 1 from (r .kind))) → LifeRan starts continues s from (Found r)
   other : ((char : Eater TokenKind) → lifetimeOr (lent starts continues []) char (rest s from) ≡ char (rest s from)) → LifeRan starts continues s from Char
