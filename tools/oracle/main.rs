@@ -13,6 +13,8 @@
 //! | `runs NAME`               | `LOW-HIGH=yes` or `LOW-HIGH=no`, parted by spaces          |
 //! | `ident TEXT`              | `yes` or `no`                                              |
 //! | `tokens ALLOWED TEXT`     | all tokens but Eof, parted by spaces; `-` where there is none |
+//! | `steps ALLOWED TEXT`      | all tokens, Eof too, each with the flag after it           |
+//! | `one ALLOWED PLACE TEXT`  | the token of a lexer that starts at PLACE, with the flag after it |
 //! | `shebang TEXT`            | `none`, or the length of the shebang                       |
 //! | `raw PREFIX TEXT`         | `ok`, or the error as below                                |
 //! | `guarded PLACE TEXT`      | `none STANDS`, or `found HASHES TERMINATED LENGTH STANDS`  |
@@ -28,6 +30,7 @@
 //! holds in the order of 000's fields, and its length, parted by commas. What is missing
 //! is `none`; a doc style is `outer` or `inner`: `Plus,1`, `Lifetime,false,2`,
 //! `BlockComment,outer,true,6`, `Literal,RawStr,none,4,4`, `Literal,Int,Decimal,false,3,5`.
+//! The flag after a token, `on` or `off`, follows its length: `Plus,1,off`, `Eof,0,on`.
 //!
 //! PREFIX counts characters. The errors are `InvalidStarter CHARACTER`, `NoTerminator
 //! EXPECTED FOUND OFFSET` (OFFSET may be `none`) and `TooManyDelimiters FOUND`.
@@ -83,6 +86,14 @@ fn answer(words: &[&str]) -> Answer {
             let allowed = frontmatter(allowed)?;
             about(text, |text| Ok(tokens::tokens(text, allowed)))
         }
+        ["steps", allowed, text @ ..] => {
+            let allowed = frontmatter(allowed)?;
+            about(text, |text| Ok(tokens::steps(text, allowed)))
+        }
+        ["one", allowed, place, text @ ..] => {
+            let (allowed, place) = (frontmatter(allowed)?, number(place)? as usize);
+            about(text, |text| boundary(text, place).map(|()| tokens::one(text, place, allowed)))
+        }
         ["shebang", text @ ..] => about(text, |text| Ok(tokens::shebang(text))),
         ["raw", prefix, text @ ..] => {
             let prefix = number(prefix)?;
@@ -90,10 +101,7 @@ fn answer(words: &[&str]) -> Answer {
         }
         ["guarded", place, text @ ..] => {
             let place = number(place)? as usize;
-            about(text, |text| match text.is_char_boundary(place) {
-                true => Ok(tokens::guarded(text, place)),
-                false => Err(format!("no boundary: {place:x}")),
-            })
+            about(text, |text| boundary(text, place).map(|()| tokens::guarded(text, place)))
         }
         _ => Err("unknown request".to_string()),
     }
@@ -105,6 +113,10 @@ fn about(words: &[&str], call: impl FnOnce(&str) -> Answer) -> Answer {
         Ok(text) => call(text),
         Err(place) => Ok(format!("bad {place:x}")),
     }
+}
+
+fn boundary(text: &str, place: usize) -> Result<(), String> {
+    if text.is_char_boundary(place) { Ok(()) } else { Err(format!("no boundary: {place:x}")) }
 }
 
 fn frontmatter(word: &str) -> Result<FrontmatterAllowed, String> {

@@ -3,15 +3,42 @@
 
 use std::panic::{self, UnwindSafe};
 
-use rustc_lexer::{Base, Cursor, DocStyle, FrontmatterAllowed, LiteralKind, RawStrError, TokenKind};
+use rustc_lexer::{
+    Base, Cursor, DocStyle, FrontmatterAllowed, LiteralKind, RawStrError, Token, TokenKind,
+    allows_frontmatter,
+};
 
 pub fn tokens(text: &str, allowed: FrontmatterAllowed) -> String {
     caught(|| {
         let words: Vec<String> = rustc_lexer::tokenize(text, allowed)
-            .map(|token| format!("{},{:x}", kind(token.kind), token.len))
+            .map(|token| kind_and_length(&token))
             .collect();
         // No answer is an empty line.
         if words.is_empty() { "-".to_string() } else { words.join(" ") }
+    })
+}
+
+/// Every token up to Eof and Eof itself, from one cursor.
+pub fn steps(text: &str, allowed: FrontmatterAllowed) -> String {
+    caught(|| {
+        let mut cursor = Cursor::new(text, allowed);
+        let mut words = Vec::new();
+        loop {
+            let token = cursor.advance_token();
+            words.push(with_flag(&token, &cursor));
+            if token.kind == TokenKind::Eof {
+                return words.join(" ");
+            }
+        }
+    })
+}
+
+/// `place` is a boundary of a character.
+pub fn one(text: &str, place: usize, allowed: FrontmatterAllowed) -> String {
+    caught(|| {
+        let mut cursor = Cursor::new(&text[place..], allowed);
+        let token = cursor.advance_token();
+        with_flag(&token, &cursor)
     })
 }
 
@@ -55,6 +82,15 @@ fn caught(call: impl FnOnce() -> String + UnwindSafe) -> String {
     let answer = panic::catch_unwind(call);
     let _ = panic::take_hook();
     answer.unwrap_or_else(|_| "panic".to_string())
+}
+
+fn kind_and_length(token: &Token) -> String {
+    format!("{},{:x}", kind(token.kind), token.len)
+}
+
+fn with_flag(token: &Token, cursor: &Cursor) -> String {
+    let flag = if allows_frontmatter(cursor) { "on" } else { "off" };
+    format!("{},{flag}", kind_and_length(token))
 }
 
 fn number_or_none<N: std::fmt::LowerHex>(number: Option<N>) -> String {

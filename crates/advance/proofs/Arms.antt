@@ -9,6 +9,7 @@ use native.Mathlib.Omega.{arith}
 use borrow.Author.Tests.{ne-eqb, eqb-true}
 use mathlib.Core.Logic.{_⊎_, inl, inr, ⊎-elim}
 use Rattle.basics.specs.Choice.{or}
+use Rattle.basics.specs.Tests.{isIn}
 use Rattle.basics.proofs.Choices.{yes-or-no, inside-within, under-within, over-within}
 use Rattle.classes.proofs.Points.{no-white, start-other, letter-under}
 use Rattle.classes.specs.Whitespace.{isWhitespace}
@@ -149,23 +150,19 @@ apart-first : (T : Type 0) (ks : List ℕ) (c : ℕ) → apart T ks c → T
 apart-first T [] c d = d
 apart-first T (k ∷ ks) c d = apart-first (T × (c ≡ k → ⊥)) ks c d .0
 
-abbrev among : List ℕ → ℕ → Bool
-among [] k = false
-among (j ∷ ks) k = or (eqb k j) (among ks k)
-
-apart-from : (T : Type 0) (ks : List ℕ) (c k : ℕ) → among ks k ≡ true → apart T ks c → c ≡ k → ⊥
+apart-from : (T : Type 0) (ks : List ℕ) (c k : ℕ) → isIn ks k ≡ true → apart T ks c → c ≡ k → ⊥
 apart-from T [] c k h d q = absurd (true≢false (sym h))
 apart-from T (j ∷ ks) c k h d q =
     ⊎-elim (λ e. apart-first (T × (c ≡ j → ⊥)) ks c d .1 (q ∙ eqb-true k j e))
-    (λ e. apart-from (T × (c ≡ j → ⊥)) ks c k (sym (ap (λ (t : Bool). or t (among ks k)) e) ∙ h) d q) (yes-or-no (eqb k j))
+    (λ e. apart-from (T × (c ≡ j → ⊥)) ks c k (sym (ap (λ (t : Bool). or t (isIn ks k)) e) ∙ h) d q) (yes-or-no (eqb k j))
 
 abbrev pub Apart : ℕ → Type 0
 Apart c = apart (Unit {0}) points c
 
-away : {c : ℕ} → Apart c → (k : ℕ) → among points k ≡ true → c ≡ k → ⊥
+away : {c : ℕ} → Apart c → (k : ℕ) → isIn points k ≡ true → c ≡ k → ⊥
 away {c} d k h = apart-from (Unit {0}) points c k h d
 
-above : {c : ℕ} → Apart c → (k : ℕ) → among points k ≡ true → k ≤ c → k + 1 ≤ c
+above : {c : ℕ} → Apart c → (k : ℕ) → isIn points k ≡ true → k ≤ c → k + 1 ≤ c
 above d k h l = omega (arith, away d k h)
 
 -- a digit: the points below the digits are told with them

@@ -9,6 +9,7 @@ use Rattle.refusal.specs.declared.Bad.{Bad}
 use Rattle.refusal.specs.declared.Verdict.{Verdict}
 use Rattle.refusal.specs.declared.Verdict.the-variants.{Fine, Refused}
 use Rattle.refusal.specs.Order.{first}
+use Rattle.refusal.proofs.Orders.{first-1, first-2}
 use Rattle.lists.specs.Rules.{listVerdict, Good}
 use Rattle.lists.proofs.Laws.{fine-good}
 use Rattle.text.specs.Verdicts.{tooLong, utf8Verdict}
@@ -29,16 +30,6 @@ module _ {v w : Verdict} (e : v ≡ w) where
 -- a list that its check lets through is good
 pub listed-good : (limit which : ℕ) (l : List ℕ) {v : Verdict} → v ≡ listVerdict limit which l → v ≡ Fine → Good l
 listed-good limit which l e k = fine-good limit which l (sym e ∙ k)
-
--- where two checks let through, both do
-first-1 : (a b : Verdict) → first a b ≡ Fine → a ≡ Fine
-first-1 Fine b e = refl
-first-1 (Refused x) b e = e
-
-first-2 : (a b : Verdict) → first a b ≡ Fine → b ≡ Fine
-first-2 Fine b e = e
-first-2 (Refused x) Fine e = refl
-first-2 (Refused x) (Refused y) e = cc
 
 module _ (limit : ℕ) (s a b : List ℕ) {v : Verdict} (e : v ≡ identVerdict limit s a b) (k : v ≡ Fine) where
   both : first (listVerdict limit 0 a) (first (listVerdict limit 1 b) Fine) ≡ Fine

@@ -102,7 +102,7 @@ pub few-tokens : (L : Lists) (on : Bool) (cs : List ℕ) → length (tokens L on
 few-tokens L = by-tokens L (λ (on : Bool) (cs : List ℕ). length (tokens L on cs) ≤ length cs) (λ on. rw (tokens-none L on) zero-le)
     (λ on c cs ih. rw (tokens-step L on c cs) (omega (arith, ih, length-drop (advance L on (c ∷ cs) .took) (c ∷ cs), advance-some L on c cs)))
 
-size-append : (a b : List ℕ) → size (a ++ b) ≡ size a + size b
+pub size-append : (a b : List ℕ) → size (a ++ b) ≡ size a + size b
 size-append [] b = omega arith
 size-append (c ∷ a) b = omega (arith, size-append a b)
 

@@ -51,7 +51,7 @@ returns-3 : tie.Need-returns-3
 returns-3 c = search needs
 
 sub-if1 : tie.Need-sub-if1
-sub-if1 c = omega (arith, header-room (c .before .before .before .before .before .before .before .before .before .before .before .before .before .before .pre) (c .before .before .before .before .before .before .before .before .before .before .before .numbers-at .ensures) (c .before .before .before .before .before .before .before .before .before .a .given .1) (c .before .before .before .before .before .before .before .numbers-at2 .ensures) (c .before .before .before .before .before .c .given .1) (c .before .before .before .numbers-at3 .ensures) (c .before .e .given .1))
+sub-if1 c = omega (arith, header-room (c .before .before .before .before .before .before .before .before .before .before .before .before .before .before .pre) (c .before .before .before .before .before .before .before .before .before .before .before .numbers-at .ensures .placed) (c .before .before .before .before .before .before .before .before .before .a .given .1) (c .before .before .before .before .before .before .before .numbers-at2 .ensures .placed) (c .before .before .before .before .before .c .given .1) (c .before .before .before .numbers-at3 .ensures .placed) (c .before .e .given .1))
 
 broken-requires-4 : tie.Need-broken-requires-4
 broken-requires-4 c κs = search needs
@@ -66,7 +66,7 @@ number-requires : tie.Need-number-requires
 number-requires c κs = search needs
 
 with-lists-requires : tie.Need-with-lists-requires
-with-lists-requires c κs = header (c .before .before .before .before .before .before .before .before .before .before .before .before .before .before .before .before .before .pre) (c .before .before .before .before .before .before .before .before .before .before .before .before .before .before .numbers-at .ensures) (c .before .before .before .before .before .before .before .before .before .before .before .before .a .given .1) (c .before .before .before .before .before .before .before .before .before .before .numbers-at2 .ensures) (c .before .before .before .before .before .before .before .before .c .given .1) (c .before .before .before .before .before .before .numbers-at3 .ensures) (c .before .before .before .before .e .given .1) (c .before .before .if1 .left)
+with-lists-requires c κs = header (c .before .before .before .before .before .before .before .before .before .before .before .before .before .before .before .before .before .pre) (c .before .before .before .before .before .before .before .before .before .before .before .before .before .before .numbers-at .ensures .placed) (c .before .before .before .before .before .before .before .before .before .before .before .before .a .given .1) (c .before .before .before .before .before .before .before .before .before .before .numbers-at2 .ensures .placed) (c .before .before .before .before .before .before .before .before .c .given .1) (c .before .before .before .before .before .before .numbers-at3 .ensures .placed) (c .before .before .before .before .e .given .1) (c .before .before .if1 .left)
 
 same-length : tie.Need-same-length
 same-length c = search needs

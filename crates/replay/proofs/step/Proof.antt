@@ -20,7 +20,7 @@ returns : tie.Need-returns
 returns c = search needs
 
 agrees-requires : tie.Need-agrees-requires
-agrees-requires c κs = parts-within _ _ (c .before .before .before .before .vector-at .ensures) (c .before .before .operation .given .1)
+agrees-requires c κs = parts-within _ _ (c .before .before .before .before .vector-at .ensures .placed) (c .before .before .operation .given .1)
 
 add-t19 : tie.Need-add-t19
 add-t19 c = search needs
@@ -29,7 +29,7 @@ same-length : tie.Need-same-length
 same-length c = search needs
 
 returns-2 : tie.Need-returns-2
-returns-2 c = one-same (c .before .before .before .before .before .before .before .before .before .before .before .before .before .before .before .pre) (c .before .before .before .before .before .before .before .before .before .vector-at .ensures) (c .before .before .before .before .before .before .before .operation .given .1)
+returns-2 c = one-same (c .before .before .before .before .before .before .before .before .before .before .before .before .before .before .before .pre) (c .before .before .before .before .before .before .before .before .before .vector-at .ensures .placed) (c .before .before .before .before .before .before .before .operation .given .1)
 
 say-bad-requires : tie.Need-say-bad-requires
 say-bad-requires c κs = search needs
@@ -41,7 +41,7 @@ same-length-2 : tie.Need-same-length-2
 same-length-2 c = search needs
 
 returns-3 : tie.Need-returns-3
-returns-3 c = one-other (c .before .before .before .before .before .before .before .before .before .before .before .before .before .before .before .before .pre) (c .before .before .before .before .before .before .before .before .before .before .vector-at .ensures) (c .before .before .before .before .before .before .before .before .operation .given .1)
+returns-3 c = one-other (c .before .before .before .before .before .before .before .before .before .before .before .before .before .before .before .before .pre) (c .before .before .before .before .before .before .before .before .before .before .vector-at .ensures .placed) (c .before .before .before .before .before .before .before .before .operation .given .1)
 
 pub step-spec : {M : Type 1} → statement M
 step-spec =

@@ -36,19 +36,19 @@ array-share-prefix-starts : tie.Need-array-share-prefix-starts
 array-share-prefix-starts c = search needs
 
 slice-aggregate-steps : tie.Need-slice-aggregate-steps
-slice-aggregate-steps c = sym (length-take-le _ _ (c .before .before .before .before .before .before .before .before .before .before .load .ensures))
+slice-aggregate-steps c = sym (length-take-le _ _ (c .before .before .before .before .before .before .before .before .before .before .load .ensures .room))
 
 array-share-prefix-continues : tie.Need-array-share-prefix-continues
 array-share-prefix-continues c = search needs
 
 slice-aggregate-steps-2 : tie.Need-slice-aggregate-steps-2
-slice-aggregate-steps-2 c = sym (length-take-le _ _ (c .before .before .before .before .before .before .before .load2 .ensures))
+slice-aggregate-steps-2 c = sym (length-take-le _ _ (c .before .before .before .before .before .before .before .load2 .ensures .room))
 
 array-share-prefix-emoji : tie.Need-array-share-prefix-emoji
 array-share-prefix-emoji c = search needs
 
 slice-aggregate-steps-3 : tie.Need-slice-aggregate-steps-3
-slice-aggregate-steps-3 c = sym (length-take-le _ _ (c .before .before .before .before .load3 .ensures))
+slice-aggregate-steps-3 c = sym (length-take-le _ _ (c .before .before .before .before .load3 .ensures .room))
 
 steps-requires : tie.Need-steps-requires
 steps-requires c κs = search needs

@@ -1,4 +1,5 @@
--- `vectors::put` meets its contract. The length is kept by each store.
+-- `vectors::put` meets its contract. The length is kept by each store, and four stores are the four bytes (Puts).
+use Rattle.vectors.proofs.Puts.{four-stores}
 use native.Mathlib.Omega.{arith}
 use lib.ListN.{length-set}
 use borrow.Author.Needs.{needs}
@@ -42,7 +43,7 @@ same-length : tie.Need-same-length
 same-length c = search needs
 
 returns : tie.Need-returns
-returns c = search needs
+returns c = search four-stores
 
 pub put-spec : {M : Type 1} → statement M
 put-spec =

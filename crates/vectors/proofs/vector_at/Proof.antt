@@ -1,17 +1,17 @@
--- `vectors::vector_at` meets its contract. Two parts, one after the other (Laws).
-use Rattle.vectors.proofs.Laws.{both}
+-- `vectors::vector_at` meets its contract. Two parts, one after the other (There).
+use Rattle.vectors.proofs.There.{vector-none-1, vector-none-2, input-short, answer-short, vector-there}
 use borrow.Author.Needs.{needs}
 use Rattle.vectors.proofs.vector_at.Statement.{statement}
 use Rattle.vectors.proofs.vector_at.Tie as tie
 
 returns : tie.Need-returns
-returns c = search needs
+returns c = search vector-none-1
 
 sub-if2 : tie.Need-sub-if2
 sub-if2 c = search needs
 
 returns-2 : tie.Need-returns-2
-returns-2 c = search needs
+returns-2 c = search vector-none-2
 
 add-bytes-at : tie.Need-add-bytes-at
 add-bytes-at c = search needs
@@ -26,7 +26,7 @@ enum-told : tie.Need-enum-told
 enum-told c = search needs
 
 returns-3 : tie.Need-returns-3
-returns-3 c = search needs
+returns-3 c = search input-short
 
 bytes-at-requires-2 : tie.Need-bytes-at-requires-2
 bytes-at-requires-2 c κs = search needs
@@ -38,13 +38,13 @@ enum-told-2 : tie.Need-enum-told-2
 enum-told-2 c = search needs
 
 returns-4 : tie.Need-returns-4
-returns-4 c = search needs
+returns-4 c = search answer-short
 
 number-requires : tie.Need-number-requires
 number-requires c κs = search needs
 
 returns-5 : tie.Need-returns-5
-returns-5 c = search both
+returns-5 c = search vector-there
 
 pub vector-at-spec : {M : Type 1} → statement M
 vector-at-spec =

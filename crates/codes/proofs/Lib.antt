@@ -1,0 +1,4 @@
+pub mod Numbers
+mod Bare
+mod Details
+pub mod Decode

@@ -1,0 +1,4 @@
+mod Scanning
+mod Checks
+pub mod Records
+pub mod Answers

@@ -1,0 +1,57 @@
+-- Steps one after the other give the records of the text; a position that a step hands back is on a boundary.
+use Prim.Native.Nat.{ℕ, zero, suc, _+_, _-_, _≤_}
+use mathlib.Core.Path.{_≡_, refl, sym, ap, _∙_}
+use mathlib.Core.Bool.{Bool, true}
+use mathlib.Core.List.{List, [], _∷_}
+use lib.ListN.{length, take, drop, length-drop}
+use lib.Seq.{drop-drop}
+use native.Mathlib.Omega.{arith}
+use Rattle.text.specs.Chars.{chars, width, size}
+use Rattle.text.specs.Position.{onBoundary}
+use Rattle.text.proofs.Coding.{Fact}
+use Rattle.text.proofs.Texts.{by-chars}
+use Rattle.token.specs.declared.Token as token
+use Rattle.token.specs.Lists.{Lists}
+use Rattle.token.specs.Advance.{advance}
+use Rattle.token.specs.Tokens.{tokens, placed, records}
+use Rattle.token.proofs.Cover.{tokens-step, advance-room}
+use Rattle.lexer.specs.Scans.{bytesOf, scanAt}
+
+-- the records from a position on
+abbrev pub recordsFrom : Lists → (s : List ℕ) (at : ℕ) (on : Bool) → List token.Token
+recordsFrom L s at on = placed at (tokens L on (chars (drop at s)))
+
+-- past the bytes of the first k characters, the other characters are left
+pub chars-past : (s : List ℕ) (k : ℕ) → k ≤ length (chars s) → chars (drop (size (take k (chars s))) s) ≡ drop k (chars s)
+chars-past = by-chars (λ (s : List ℕ). (k : ℕ) → k ≤ length (chars s) → chars (drop (size (take k (chars s))) s) ≡ drop k (chars s))
+    (λ s n k h. nothing s n k)
+    (λ s c w d f n ih k h. some s c w f n ih k h)
+  where
+    nothing : (s : List ℕ) → chars s ≡ [] → (k : ℕ) → chars (drop (size (take k (chars s))) s) ≡ drop k (chars s)
+    nothing s n zero = refl
+    nothing s n (suc k) = rw n n
+
+    some : (s : List ℕ) (c w : ℕ) → Fact s c w → chars s ≡ c ∷ chars (drop w s) → ((k : ℕ) → k ≤ length (chars (drop w s)) → chars (drop (size (take k (chars (drop w s)))) (drop w s)) ≡ drop k (chars (drop w s))) → (k : ℕ) → k ≤ length (chars s) → chars (drop (size (take k (chars s))) s) ≡ drop k (chars s)
+    some s c w f n ih zero h = refl
+    some s c w f n ih (suc k) h =
+        let m : size (take (suc k) (chars s)) ≡ w + size (take k (chars (drop w s))) = ap (λ (l : List ℕ). size (take (suc k) l)) n ∙ ap (λ (j : ℕ). j + size (take k (chars (drop w s)))) (f .wide) in
+        let l : k ≤ length (chars (drop w s)) = omega (arith, ap length n) in
+        ap (λ (j : ℕ). chars (drop j s)) m ∙ ap chars (sym (drop-drop (size (take k (chars (drop w s)))) w s)) ∙ ih k l ∙ sym (ap (drop (suc k)) n)
+
+module _ (L : Lists) (s : List ℕ) (at : ℕ) (on : Bool) where
+  -- what is left past the token at a position
+  pub past-token : chars (drop (scanAt L s at on .next) s) ≡ drop (advance L on (chars (drop at s)) .took) (chars (drop at s))
+  unfolding scanAt bytesOf
+  past-token =
+      ap chars (sym (drop-drop (bytesOf L on (chars (drop at s))) at s))
+      ∙ chars-past (drop at s) (advance L on (chars (drop at s)) .took) (advance-room L on (chars (drop at s)))
+
+  -- at a character: the token there, and then the records from the next position on
+  pub step-records : (c : ℕ) (cs : List ℕ) → chars (drop at s) ≡ c ∷ cs → recordsFrom L s at on ≡ scanAt L s at on .token ∷ recordsFrom L s (scanAt L s at on .next) (scanAt L s at on .on)
+  unfolding scanAt bytesOf
+  step-records c cs e =
+      ap (λ (l : List ℕ). placed at (tokens L on l)) e ∙ ap (placed at) (tokens-step L on c cs) ∙ sym (ap row e)
+      ∙ ap (λ (l : List ℕ). scanAt L s at on .token ∷ placed (scanAt L s at on .next) (tokens L (scanAt L s at on .on) l)) (sym past-token)
+    where
+      row : List ℕ → List token.Token
+      row l = record { kind = advance L on l .said .kind; len = bytesOf L on l; start = at } ∷ placed (at + bytesOf L on l) (tokens L (advance L on l .said .on) (drop (advance L on l .took) l))

@@ -1,0 +1,124 @@
+-- The step, in the facts of the code.
+use Prim.Native.Nat.{ℕ, suc, _+_, _-_, _*_, _^_, _≤_, _<_}
+use mathlib.Core.Path.{_≡_, refl, sym, ap, subst, _∙_}
+use mathlib.Core.Bool.{Bool}
+use mathlib.Core.List.{List, [], _∷_, _++_}
+use lib.ListN.{length, take, drop, length-drop}
+use mir.Val.{Fits}
+use mir.Syntax.{w64}
+use native.Mathlib.Omega.{arith}
+use Rattle.basics.specs.Choice.{and}
+use Rattle.text.specs.Chars.{chars, width, size}
+use Rattle.text.proofs.Texts.{size-chars, width-some}
+use Rattle.eaters.specs.Eat.{Eater}
+use Rattle.token.specs.declared.LiteralKind.{LiteralKind}
+use Rattle.token.specs.declared.TokenKind.{TokenKind}
+use Rattle.token.specs.declared.TokenKind.the-variants as kind
+use Rattle.token.specs.Lists.{Lists}
+use Rattle.token.specs.Advance.{stays, Told, advance}
+use Rattle.token.proofs.Takes.{fits-token}
+use Rattle.token.proofs.Cover.{size-append}
+use Rattle.cursor.specs.declared.Cursor.{Cursor}
+use Rattle.cursor.specs.declared.Kinded.{Kinded}
+use Rattle.cursor.specs.declared.Kinded.the-variants.{Plain, Literal}
+use Rattle.cursor.specs.declared.Step.{Step}
+use Rattle.cursor.specs.declared.Step.the-variants.{Got, Over}
+use Rattle.cursor.specs.declared.Scanned.{Scanned}
+use Rattle.cursor.specs.Cursors.{rest, rest-is, Seen}
+use Rattle.cursor.specs.Moved.{passed}
+use Rattle.cursor.specs.Ran.{left, kindFrom, Past}
+use Rattle.cursor.proofs.Moves.{char-at, end-at}
+use Rattle.cursor.proofs.Runs.{ran-bytes}
+use Rattle.prefixed.specs.Begins.{Begun}
+use Rattle.advance.specs.Arms.{decided}
+use Rattle.lexer.specs.declared.Scan.{Scan}
+use Rattle.lexer.specs.Scans.{bytesOf, scanAt, Narrow}
+
+-- THE KIND
+module _ {k : Kinded} (b : Cursor) where
+  pub plain-kind : {j : TokenKind} → k ≡ Plain j → j ≡ kindFrom 1 b k
+  plain-kind q = rw q
+
+  module _ {j : LiteralKind} {d : Cursor} (q : k ≡ Literal j d) where
+    pub literal-kind : {m n x : ℕ} → m ≡ d .at → n ≡ b .at → x ≡ 1 + (m - n) → kind.Literal j x ≡ kindFrom 1 b k
+    literal-kind e f g = rw (q, g, e, f)
+
+    module _ (p : Narrow b k) where
+      known : Narrow b (Literal j d)
+      known = subst (Narrow b) q p
+
+      pub not-less : {m n : ℕ} → m ≡ d .at → n ≡ b .at → n ≤ m
+      not-less e f = omega (arith, known .0)
+
+      pub suffix-narrow : {m n : ℕ} → m ≡ d .at → n ≡ b .at → 1 + (m - n) ≤ 4294967295
+      suffix-narrow e f = omega (arith, known .1)
+
+      pub suffix-fits : {m n : ℕ} → m ≡ d .at → n ≡ b .at → Fits w64 (1 + (m - n))
+      suffix-fits e f = record { fits = omega (arith, known .1) }
+
+narrowed : (k : Kinded) (b n : Cursor) → Past b n k → 1 ≤ b .at → n .at ≤ 4294967295 → Narrow b k
+narrowed (Plain k) b n p l m = tt
+narrowed (Literal k d) b n p l m = (p .from, omega (arith, p .from, p .to))
+
+abbrev scan : (at : ℕ) (k : TokenKind) (l n : ℕ) (t : Bool) → Scan
+scan at k l n t = record { token = record { kind = k; len = l; start = at }; next = n; on = t }
+
+same-scan : {at l₁ l₂ n₁ n₂ : ℕ} {k₁ k₂ : TokenKind} {t₁ t₂ : Bool} → k₁ ≡ k₂ → l₁ ≡ l₂ → n₁ ≡ n₂ → t₁ ≡ t₂ → scan at k₁ l₁ n₁ t₁ ≡ scan at k₂ l₂ n₂ t₂
+same-scan p q r s = rw (p, q, r, s)
+
+-- THE END
+rest-at : (s : List ℕ) (a : Cursor) {at : ℕ} → a .at ≡ at → rest s a ≡ chars (drop at s)
+rest-at s a e = rest-is s a ∙ ap (λ (n : ℕ). chars (drop n s)) e
+
+module _ (L : Lists) (s : List ℕ) {at : ℕ} (on : Bool) {a : Cursor} {r : Step} (e : a .at ≡ at) (h : Seen s a r) where
+  pub at-end : r ≡ Over → record { token = record { kind = kind.Eof; len = 0; start = at }; next = at; on = on } ≡ scanAt L s at on
+  unfolding scanAt bytesOf advance
+  at-end q =
+      let n : chars (drop at s) ≡ [] = sym (rest-at s a e) ∙ end-at q h in
+      let z : bytesOf L on (chars (drop at s)) ≡ 0 = ap (bytesOf L on) n in
+      same-scan (sym (ap (λ (cs : List ℕ). advance L on cs .said .kind) n)) (sym z) (omega (arith, z)) (sym (ap (λ (cs : List ℕ). advance L on cs .said .on) n))
+
+  -- A CHARACTER, and what the decision over it gives
+  module _ {c : ℕ} {b : Cursor} (q : r ≡ Got c b) {x : Scanned} (g : Begun (decided L on c) s b x) where
+    begins : chars (drop at s) ≡ c ∷ rest s b
+    begins = sym (rest-at s a e) ∙ char-at q h .chars
+
+    past : x .next .at ≡ b .at + size (take (decided L on c (rest s b) .took) (rest s b))
+    past = ran-bytes (decided L on c) (g .ran) (fits-token L on c .fits (rest s b) (omega arith))
+
+    long : bytesOf L on (chars (drop at s)) ≡ width c + size (take (decided L on c (rest s b) .took) (rest s b))
+    unfolding bytesOf advance
+    long = ap (bytesOf L on) begins
+
+    pub ends : x .next .at ≡ at + bytesOf L on (chars (drop at s))
+    ends = omega (arith, past, long, char-at q h .bytes, e)
+
+    -- no further than the text
+    pub within : x .next .at ≤ length s
+    within =
+        let p = passed (g .ran .moved) in
+        let z : size (p .text) ≤ size (rest s b) = omega (arith, sym (ap size (p .whole)), size-append (p .text) (left (decided L on c) (rest s b))) in
+        let y : size (chars (drop at s)) ≡ width c + size (rest s b) = ap size begins in
+        omega (arith, p .bytes, z, y, char-at q h .bytes, e, size-chars (drop at s), length-drop at s, width-some c)
+
+    pub kind-narrow : length s ≤ 4294967295 → Narrow b (x .kind)
+    kind-narrow l = narrowed (x .kind) b (x .next) (g .past) (omega (arith, char-at q h .bytes, width-some c)) (omega (arith, within))
+
+    module _ {n : ℕ} (m : n ≡ x .next .at) where
+      pub not-before : at ≤ n
+      not-before = omega (arith, ends)
+
+      pub len-narrow : length s ≤ 4294967295 → n - at ≤ 4294967295
+      len-narrow l = omega (arith, within)
+
+      said : advance L on (chars (drop at s)) .said ≡ record { kind = decided L on c (rest s b) .said; on = and on (stays (decided L on c (rest s b) .said)) }
+      unfolding advance
+      said = ap (λ (cs : List ℕ). advance L on cs .said) begins
+
+      pub scanned : {l : ℕ} {k : TokenKind} {t : Bool} → k ≡ kindFrom 1 b (x .kind) → l ≡ n - at → t ≡ and on (stays k) → record { token = record { kind = k; len = l; start = at }; next = n; on = t } ≡ scanAt L s at on
+      unfolding scanAt
+      scanned {l} {k} {t} f d o =
+          let v : k ≡ advance L on (chars (drop at s)) .said .kind = f ∙ g .ran .said ∙ sym (ap (λ (y : Told). y .kind) said) in
+          let w : t ≡ advance L on (chars (drop at s)) .said .on = o ∙ ap (λ (j : TokenKind). and on (stays j)) (f ∙ g .ran .said) ∙ sym (ap (λ (y : Told). y .on) said) in
+          let u : n ≡ at + bytesOf L on (chars (drop at s)) = m ∙ ends in
+          same-scan v (d ∙ omega arith) u w

@@ -1,0 +1,31 @@
+-- The token at a position of a text, in its place.
+use Prim.Native.Nat.{ℕ, _+_, _-_, _≤_}
+use mathlib.Core.List.{List}
+use mathlib.Core.Bool.{Bool}
+use lib.ListN.{take, drop}
+use Rattle.text.specs.Chars.{chars, size}
+use Rattle.token.specs.Lists.{Lists}
+use Rattle.token.specs.Advance.{advance}
+use Rattle.cursor.specs.declared.Cursor.{Cursor}
+use Rattle.cursor.specs.declared.Kinded.{Kinded}
+use Rattle.cursor.specs.declared.Kinded.the-variants.{Plain, Literal}
+use Rattle.lexer.specs.declared.Scan.{Scan}
+
+-- the bytes of the token at the front of the characters
+unfoldable pub bytesOf : Lists → (on : Bool) → List ℕ → ℕ
+bytesOf L on cs = size (take (advance L on cs .took) cs)
+
+-- the token at a position, the position past it, and whether frontmatter is on there
+unfoldable pub scanAt : Lists → (s : List ℕ) (at : ℕ) (on : Bool) → Scan
+scanAt L s at on =
+    let cs = chars (drop at s) in
+    record {
+      token = record { kind = advance L on cs .said .kind; len = bytesOf L on cs; start = at };
+      next = at + bytesOf L on cs;
+      on = advance L on cs .said .on;
+    }
+
+-- where a suffix starts is one of 000's numbers
+abbrev pub Narrow : (from : Cursor) → Kinded → Type 0
+Narrow from (Plain k) = Unit {0}
+Narrow from (Literal k d) = (from .at ≤ d .at) × (d .at - from .at + 1 ≤ 4294967295)

@@ -1,0 +1,3 @@
+mod Puts
+mod Table
+mod Decimals

@@ -1,0 +1,70 @@
+"""The oracle of tools/oracle, asked from Python."""
+
+import subprocess
+import sys
+
+from common.lists import LIST_NAMES, bad_index
+from common.packing import CLASS_NAMES, START
+
+
+class Oracle:
+    def __init__(self, program):
+        self.process = subprocess.Popen(
+            [program], stdin=subprocess.PIPE, stdout=subprocess.PIPE, text=True, encoding="ascii"
+        )
+        self.lent = {}
+        self.known_runs = {}
+
+    def ask(self, request):
+        self.process.stdin.write(request + "\n")
+        self.process.stdin.flush()
+        answer = self.process.stdout.readline().rstrip("\n")
+        if not answer or answer.startswith("error"):
+            sys.exit(f"oracle: {request[:80]}: {answer}")
+        return answer
+
+    def lend(self, which, numbers):
+        numbers = tuple(numbers)
+        if self.lent.get(which) != numbers:
+            if bad_index(numbers) is not None:
+                sys.exit("the oracle is lent good lists only")
+            words = " ".join(f"{number:x}" for number in numbers)
+            self.ask(f"list {LIST_NAMES[which]} {words}")
+            self.lent[which] = numbers
+
+    def verdict(self, text):
+        """None for well-formed, else the place."""
+        words = self.ask(f"utf8 {text.hex()}").split()
+        place = None if words[0] == "good" else int(words[1], 16)
+        # A second witness: Python's decoder gives the same place.
+        try:
+            text.decode("utf-8")
+            seen = None
+        except UnicodeDecodeError as error:
+            seen = error.start
+        if seen != place:
+            sys.exit(f"two decoders differ on {text.hex()}: {place} and {seen}")
+        return place
+
+    def verdict_after(self, prefix):
+        return bytes(int(word, 16) for word in self.ask(f"utf8-after {prefix.hex()}").split())
+
+    def in_class(self, operation, point):
+        return self.ask(f"class {CLASS_NAMES[operation]} {point:x}") == "yes"
+
+    def runs(self, operation, numbers):
+        """(low, high, yes) over all scalar values; the list must be good."""
+        key = (operation, tuple(numbers))
+        if key not in self.known_runs:
+            if operation >= START:
+                self.lend(operation - START, numbers)
+            runs = []
+            for word in self.ask(f"runs {CLASS_NAMES[operation]}").split():
+                ends, answer = word.split("=")
+                low, high = (int(end, 16) for end in ends.split("-"))
+                runs.append((low, high, answer == "yes"))
+            self.known_runs[key] = runs
+        return self.known_runs[key]
+
+    def ident(self, text):
+        return self.ask(f"ident {text.hex()}") == "yes"

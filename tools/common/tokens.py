@@ -1,0 +1,231 @@
+"""Vectors of the calls that read tokens: operations 9 to 14 of tools/oracle/README.md.
+
+What the Rust can say comes from the oracle. The Rust has no word for a refusal: there the
+rules of the scope paper are applied here, in the plainest way and in the paper's order.
+"""
+
+import sys
+
+from common.lists import bad_index
+from common.packing import (
+    ANSWER_LIMIT, GUARDED, ONE, RAW, SHEBANG, TOKENS, numbers_of, section, vector,
+)
+from common.texts import request
+
+KINDS = """
+    LineComment BlockComment Whitespace Frontmatter Ident InvalidIdent RawIdent ForcedKeywordIdent
+    UnknownPrefix UnknownPrefixLifetime RawLifetime GuardedStrPrefix Literal Lifetime Semi Comma Dot
+    OpenParen CloseParen OpenBrace CloseBrace OpenBracket CloseBracket At Pound Tilde Question Colon
+    Dollar Eq Bang Lt Gt Minus And Or Plus Star Slash Caret Percent Unknown Eof
+""".split()
+LITERALS = ["Int", "Float", "Char", "Byte", "Str", "ByteStr", "CStr", "RawStr", "RawByteStr", "RawCStr"]
+BASES = ["Binary", "Octal", "Decimal", "Hexadecimal"]
+DOC_STYLES = ["none", "outer", "inner"]
+MODES = ["off", "on"]
+
+
+# ---- tokens as numbers ----
+
+
+def truth(word):
+    return ["false", "true"].index(word)
+
+
+def literal_detail(name, *holds):
+    if name in ("Int", "Float"):
+        detail = BASES.index(holds[0]) + 4 * truth(holds[1])
+    elif name.startswith("Raw"):
+        detail = 0 if holds[0] == "none" else 1 + int(holds[0], 16)
+    else:
+        detail = truth(holds[0])
+    return LITERALS.index(name) + 16 * detail
+
+
+def detail_of(kind, holds):
+    if kind == "LineComment":
+        return DOC_STYLES.index(holds[0])
+    if kind == "BlockComment":
+        return DOC_STYLES.index(holds[0]) + 4 * truth(holds[1])
+    if kind == "Frontmatter":
+        return truth(holds[0]) + 2 * truth(holds[1])
+    if kind == "Lifetime":
+        return truth(holds[0])
+    if kind == "Literal":
+        return literal_detail(*holds)
+    if holds:
+        sys.exit(f"{kind} holds nothing")
+    return 0
+
+
+def token_numbers(word):
+    """Kind code, suffix start, length and the flag after the token."""
+    kind, *holds, length, flag = word.split(",")
+    suffix = int(holds.pop(), 16) if kind == "Literal" else 0
+    return KINDS.index(kind) + 64 * detail_of(kind, holds), suffix, int(length, 16), MODES.index(flag)
+
+
+def check_flags(flag, tokens):
+    """The paper's rule: off stays off; on stays on through whitespace and at Eof only."""
+    for code, _, _, after in tokens:
+        if after != (flag and KINDS[code % 64] in ("Whitespace", "Eof")):
+            sys.exit(f"a flag is not the paper's: {tokens}")
+        flag = after
+
+
+# ---- vectors ----
+
+
+def is_boundary(text, position):
+    if position >= len(text):
+        return position == len(text)
+    return text[position] & 0xC0 != 0x80
+
+
+def raw_prefix_is_good(prefix, text):
+    return (prefix, text[:prefix]) in ((1, b"r"), (2, b"br"), (2, b"cr"))
+
+
+class Calls:
+    """The calls under one choice of lists. A call that panics in the Rust gives no vector."""
+
+    def __init__(self, oracle, lists, answer_limit=ANSWER_LIMIT):
+        self.oracle = oracle
+        self.answer_limit = answer_limit
+        self.lists = lists
+        self.bad = [bad_index(numbers) for numbers in lists]
+        self.vectors = {}
+        self.size = 0
+        self.panics = 0
+        self.too_long = 0
+        # Bytes read by calls that check the whole text for each token.
+        self.work = 0
+
+    def section(self):
+        return section(self.lists, list(self.vectors))
+
+    def refusal(self, lists_used, text, position=None):
+        for which in range(lists_used):
+            if self.bad[which] is not None:
+                return numbers_of(3, which, self.bad[which])
+        place = self.oracle.verdict(text)
+        if place is not None:
+            return numbers_of(2, place, 0)
+        if position is not None and not is_boundary(text, position):
+            return numbers_of(4, position, 0)
+        return None
+
+    def ask(self, *words):
+        """None where the Rust panics. A call that is not refused uses good lists only."""
+        for which, numbers in enumerate(self.lists):
+            self.oracle.lend(which, numbers if self.bad[which] is None else [])
+        answer = self.oracle.ask(request(*words))
+        self.panics += answer == "panic"
+        return None if answer == "panic" else answer.split()
+
+    def add(self, operation, handed_in, answer):
+        """Each vector once; none where there is no answer."""
+        if answer is not None:
+            made = vector(operation, handed_in, answer)
+            if made not in self.vectors:
+                self.vectors[made] = None
+                self.size += len(made)
+
+    def one(self, flag, position, text):
+        answer = self.refusal(3, text, position)
+        if answer is None:
+            words = self.ask("one", MODES[flag], f"{position:x}", text.hex())
+            if words is not None:
+                code, suffix, length, after = token_numbers(words[0])
+                check_flags(flag, [(code, suffix, length, after)])
+                answer = numbers_of(0, code, suffix, length, position, position + length, after)
+        self.work += len(text)
+        self.add(ONE, numbers_of(position, flag) + text, answer)
+
+    def tokens(self, flag, text, operation=TOKENS):
+        answer = self.refusal(3, text)
+        if answer is None:
+            words = self.ask("steps", MODES[flag], text.hex())
+            if words is not None:
+                answer = self.token_list(flag, text, words)
+        if answer is not None and operation == TOKENS:
+            self.work += len(text) * max(len(answer) // 16, 1)
+        self.add(operation, numbers_of(flag) + text, answer)
+
+    def token_list(self, flag, text, words):
+        # A second witness: the iterator of 000 gives the same tokens.
+        listed = [word for word in self.ask("tokens", MODES[flag], text.hex()) if word != "-"]
+        if listed != [word.rsplit(",", 1)[0] for word in words[:-1]]:
+            sys.exit(f"two ways of reading tokens differ on {text.hex()}")
+        tokens = [token_numbers(word) for word in words]
+        check_flags(flag, tokens)
+        lengths = [length for _, _, length, _ in tokens]
+        if not all(lengths[:-1]) or lengths[-1] != 0 or sum(lengths) != len(text):
+            sys.exit(f"the lengths do not add up on {text.hex()}")
+        answer = b"".join(numbers_of(*token) for token in tokens)
+        self.too_long += len(answer) > self.answer_limit
+        return answer if len(answer) <= self.answer_limit else None
+
+    def shebang(self, text):
+        answer = self.refusal(0, text)
+        if answer is None:
+            words = self.ask("shebang", text.hex())
+            answer = numbers_of(0, 0 if words == ["none"] else int(words[0], 16), 0)
+        self.add(SHEBANG, text, answer)
+
+    def raw(self, prefix, text):
+        answer = self.refusal(0, text)
+        if answer is None and not raw_prefix_is_good(prefix, text):
+            answer = numbers_of(8, 0, 0)
+        if answer is None:
+            answer = raw_answer(*self.ask("raw", f"{prefix:x}", text.hex()))
+        self.add(RAW, numbers_of(prefix) + text, answer)
+
+    def guarded(self, position, text):
+        answer = self.refusal(2, text, position)
+        if answer is None:
+            answer = guarded_answer(position, text, *self.ask("guarded", f"{position:x}", text.hex()))
+        self.add(GUARDED, numbers_of(position) + text, answer)
+
+    def requests(self, asked, operation=TOKENS):
+        """The same from requests as common/texts.py makes them."""
+        for line in asked:
+            name, *words = line.split()
+            if name == "shebang":
+                self.shebang(bytes.fromhex("".join(words)))
+                continue
+            text = bytes.fromhex("".join(words[1:]))
+            if name == "tokens":
+                self.tokens(MODES.index(words[0]), text, operation)
+            elif name == "raw":
+                self.raw(int(words[0], 16), text)
+            elif name == "guarded":
+                self.guarded(int(words[0], 16), text)
+            else:
+                sys.exit(f"no such request: {line[:80]}")
+
+
+def raw_answer(name, *words):
+    if name == "ok":
+        return numbers_of(0, 0, 0, 0, 0, 0)
+    if name == "InvalidStarter":
+        return numbers_of(0, 1, int(words[0], 16), 0, 0, 0)
+    if name == "NoTerminator":
+        expected, found = int(words[0], 16), int(words[1], 16)
+        offset = (0, 0) if words[2] == "none" else (1, int(words[2], 16))
+        return numbers_of(0, 2, expected, found, *offset)
+    if name == "TooManyDelimiters":
+        return numbers_of(0, 3, int(words[0], 16), 0, 0, 0)
+    sys.exit(f"no such raw error: {name}")
+
+
+def guarded_answer(position, text, name, *words):
+    stands = int(words[-1], 16)
+    if name == "none":
+        rest = text[position:]
+        if stands != position + len(rest) - len(rest.lstrip(b"#")):
+            sys.exit("the cursor does not stand after the hashes")
+        return numbers_of(0, 0, 0, 0, 0, stands)
+    hashes, terminated, length = int(words[0], 16), truth(words[1]), int(words[2], 16)
+    if stands != position + length:
+        sys.exit("a guarded string ends elsewhere than its length says")
+    return numbers_of(0, 1, hashes, terminated, length, stands)
