@@ -201,7 +201,7 @@ pub fn ident(text: &[u8], starts: &[u32], continues: &[u32]) -> bool
 }
 
 // What `is_ident` checks: 1, 3 for its two lists, 2.
-fn ident_verdict(text: &[u8], starts: &[u32], continues: &[u32]) -> Verdict
+pub fn ident_verdict(text: &[u8], starts: &[u32], continues: &[u32]) -> Verdict
     ensures { λ r. do ⌜ r ≡ identVerdict (← ⟦lists::MAX_PAIRS⟧ .entry) (now (text .entry)) (now (starts .entry)) (now (continues .entry)) ⌝ }
 {
     let long = text::check_length(text);

@@ -59,7 +59,7 @@ abbrev isFine : Verdict → Bool
 isFine verdict.Fine = true
 isFine (verdict.Refused x) = false
 
-fine-long : (s : List ℕ) → tooLong s ≡ verdict.Fine → length s ≤ 4294967295
+pub fine-long : (s : List ℕ) → tooLong s ≡ verdict.Fine → length s ≤ 4294967295
 unfolding tooLong
 fine-long s e = go (ltb 4294967295 (length s)) refl e
   where
@@ -67,7 +67,7 @@ fine-long s e = go (ltb 4294967295 (length s)) refl e
     go true q r = absurd (true≢false (sym (ap isFine r)))
     go false q r = ltb-false 4294967295 (length s) q
 
-fine-utf8 : (s : List ℕ) → utf8Verdict s ≡ verdict.Fine → WellFormed s
+pub fine-utf8 : (s : List ℕ) → utf8Verdict s ≡ verdict.Fine → WellFormed s
 unfolding utf8Verdict
 fine-utf8 s e = go (eqb (size (chars s)) (length s)) refl e
   where

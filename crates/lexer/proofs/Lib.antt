@@ -1,4 +1,5 @@
 mod Scanning
 mod Checks
+mod Others
 pub mod Records
 pub mod Answers

@@ -1,19 +1,28 @@
 // The public token calls, with their refusals, and the step for loops over a text that was checked once.
 ghost use mathlib.Core.Path.{_≡_};
 ghost use Prim.Native.Nat.{_≤_};
+ghost use mathlib.Core.List.{[], _∷_};
 ghost use lib.ListN.{length};
+ghost use Rattle.eaters.specs.Look.{begins};
 ghost use Rattle.text.specs.Position.{startsHere};
 ghost use Rattle.lists.specs.Rules.{Good};
 ghost use Rattle.token.specs.Lists.{lent};
+ghost use Rattle.token.specs.Names.{'r'};
 ghost use Rattle.cursor.specs.Ran.{kindFrom};
 ghost use Rattle.lexer.specs.Scans.{Narrow, scanAt};
 ghost use Rattle.lexer.specs.Answers.{tokenVerdict, oneToken, tokenNumbers};
+ghost use Rattle.lexer.specs.Shebangs.{Stripped};
+ghost use Rattle.lexer.specs.RawChecks.{isPrefix, rawAnswer};
+ghost use Rattle.lexer.specs.Guards.{guardedAnswer};
 use cursor::Cursor;
 use cursor::Kinded;
 use cursor::Step;
 use refusal::Bad;
 use refusal::Numbers;
 use refusal::Verdict;
+use shebang::Shebang;
+use strings::GuardedAt;
+use token::RawStr;
 use token::Token;
 use token::TokenKind;
 
@@ -173,5 +182,105 @@ pub fn advance_token(
             OneToken::Position(at)
         }
         Verdict::Refused(bad) => OneToken::Refused(bad),
+    }
+}
+
+// What `strip_shebang` says: where the shebang ends, that there is none, or a refusal (1, 2).
+pub enum ShebangAnswer {
+    Ends(usize),
+    Absent,
+    Refused(Bad),
+}
+
+// PUBLIC. Where a shebang ends: 000's `strip_shebang`. Refusals 1 and 2 in this order. No list is lent: any lists give the same answer.
+pub fn strip_shebang(text: &[u8]) -> ShebangAnswer
+    ensures { λ r. ⌜ Stripped (now (text .entry)) r ⌝ }
+{
+    if let Verdict::Refused(bad) = text::check_text(text) {
+        return ShebangAnswer::Refused(bad);
+    }
+    match shebang::shebang_end(text) {
+        Shebang::Ends(at) => ShebangAnswer::Ends(at),
+        Shebang::Absent => ShebangAnswer::Absent,
+    }
+}
+
+// What `validate_raw_str` says: the check's result, that the prefix is none of a raw string (8), or a refusal (1, 2).
+pub enum RawAnswer {
+    Checked(RawStr),
+    Prefix,
+    Refused(Bad),
+}
+
+// Whether a text begins with these bytes, the second of them an r.
+fn begins_with_r(text: &[u8], first: u8) -> bool
+    ensures { λ r. ⌜ r ≡ begins (first ∷ 'r' ∷ []) (now (text .entry)) ⌝ }
+{
+    if text.len() < 2 {
+        return false;
+    }
+    if text[0] != first {
+        return false;
+    }
+    text[1] == 0x72
+}
+
+// Whether a text begins with a raw string's prefix of so many bytes.
+fn is_prefix(text: &[u8], prefix: usize) -> bool
+    ensures { λ r. ⌜ r ≡ isPrefix (now (text .entry)) prefix ⌝ }
+{
+    if prefix == 1 {
+        if text.len() < 1 {
+            return false;
+        }
+        return text[0] == 0x72;
+    }
+    if prefix != 2 {
+        return false;
+    }
+    if begins_with_r(text, 0x62) {
+        return true;
+    }
+    begins_with_r(text, 0x63)
+}
+
+// PUBLIC. The raw check of a literal with a prefix of so many bytes: 000's `validate_raw_str`. Refusals 1, 2 and 8 in this order.
+pub fn validate_raw_str(text: &[u8], prefix: usize) -> RawAnswer
+    ensures { λ r. ⌜ r ≡ rawAnswer (now (text .entry)) prefix ⌝ }
+{
+    if let Verdict::Refused(bad) = text::check_text(text) {
+        return RawAnswer::Refused(bad);
+    }
+    if is_prefix(text, prefix) {
+        return RawAnswer::Checked(strings::raw_str(text, prefix));
+    }
+    RawAnswer::Prefix
+}
+
+// What `guarded_double_quoted_string` says: what is found, that the position is past the end or inside a character (4), or a refusal (1, 3, 2).
+pub enum GuardedAnswer {
+    Given(GuardedAt),
+    Position(usize),
+    Refused(Bad),
+}
+
+// PUBLIC. The guarded string at a position: 000's `guarded_double_quoted_string`, and where its cursor then stands. Refusals 1, 3, 2 and 4 in
+// this order; it uses the two lists of identifiers.
+pub fn guarded_double_quoted_string(
+    text: &[u8],
+    starts: &[u32],
+    continues: &[u32],
+    at: usize,
+) -> GuardedAnswer
+    ensures { λ r. do ⌜ r ≡ guardedAnswer (← ⟦lists::MAX_PAIRS⟧ .entry) (now (text .entry)) (now (starts .entry)) (now (continues .entry)) at ⌝ }
+{
+    match classes::ident_verdict(text, starts, continues) {
+        Verdict::Fine => {
+            if starts_here(text, at) {
+                return GuardedAnswer::Given(strings::guarded_at(text, at, starts, continues));
+            }
+            GuardedAnswer::Position(at)
+        }
+        Verdict::Refused(bad) => GuardedAnswer::Refused(bad),
     }
 }

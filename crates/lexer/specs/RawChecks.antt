@@ -1,0 +1,42 @@
+-- What validate_raw_str answers: 1, then 2, then 8; else what the raw check says.
+use Prim.Native.Nat.{ℕ}
+use mathlib.Core.List.{List, [], _∷_}
+use mathlib.Core.Bool.{Bool}
+use lib.ListN.{drop}
+use lib.Dec.{eqb}
+use Rattle.basics.specs.Choice.{pick, and, or}
+use Rattle.refusal.specs.declared.Numbers.{Numbers}
+use Rattle.refusal.specs.declared.Verdict.{Verdict}
+use Rattle.refusal.specs.declared.Verdict.the-variants as verdict
+use Rattle.refusal.specs.Numbers.{numbers, badNumbers}
+use Rattle.eaters.specs.Look.{begins}
+use Rattle.text.specs.Chars.{chars}
+use Rattle.text.specs.Verdicts.{textVerdict}
+use Rattle.token.specs.declared.RawStr.the-variants.{Good, Bad}
+use Rattle.token.specs.declared.RawStrError.the-variants.{InvalidStarter, NoTerminator, TooManyDelimiters}
+use Rattle.token.specs.Names.{'b', 'c', 'r'}
+use Rattle.token.specs.RawCheck.{rawCheck}
+use Rattle.lexer.specs.declared.RawAnswer.{RawAnswer}
+use Rattle.lexer.specs.declared.RawAnswer.the-variants.{Checked, Prefix, Refused}
+
+-- 8 is given otherwise: the prefix is 1 with r, or 2 with br or cr
+unfoldable pub isPrefix : (s : List ℕ) (prefix : ℕ) → Bool
+isPrefix s prefix =
+    or (and (eqb prefix 1) (begins ('r' ∷ []) s))
+    (and (eqb prefix 2) (or (begins ('b' ∷ 'r' ∷ []) s) (begins ('c' ∷ 'r' ∷ []) s)))
+
+unfoldable pub rawOf : Verdict → RawAnswer → RawAnswer
+rawOf verdict.Fine answer = answer
+rawOf (verdict.Refused bad) answer = Refused bad
+
+abbrev pub rawAnswer : (s : List ℕ) (prefix : ℕ) → RawAnswer
+rawAnswer s prefix = rawOf (textVerdict s) (pick (isPrefix s prefix) (Checked (rawCheck prefix (chars (drop prefix s)))) Prefix)
+
+-- by number: done is 0, with the case of the check (0 good, 1 no quote, 2 no end, 3 too many hashes) and its first number
+abbrev pub rawNumbers : RawAnswer → Numbers
+rawNumbers (Checked Good) = numbers 0 0 0
+rawNumbers (Checked (Bad (InvalidStarter c))) = numbers 0 1 c
+rawNumbers (Checked (Bad (NoTerminator expected found offset))) = numbers 0 2 expected
+rawNumbers (Checked (Bad (TooManyDelimiters found))) = numbers 0 3 found
+rawNumbers Prefix = numbers 8 0 0
+rawNumbers (Refused bad) = badNumbers bad

@@ -1,0 +1,7 @@
+mod Trivial
+mod Lines
+mod First
+mod Follows
+pub mod AnyLists
+mod Strips
+pub mod Answers

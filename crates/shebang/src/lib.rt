@@ -1,0 +1,130 @@
+// Where a shebang ends (000's `strip_shebang`), proved equal to the rule in the book, in linear time.
+//
+// Nothing is asked of the text, and no list is lent: any lists give the same answer.
+ghost use mathlib.Core.Path.{_≡_};
+ghost use Prim.Native.Nat.{_+_};
+ghost use Rattle.token.specs.Advance.{plain};
+ghost use Rattle.token.specs.Shebang.{lineBytes};
+ghost use Rattle.token.specs.Trivia.{isPlain, isTrivia};
+ghost use Rattle.cursor.specs.Cursors.{rest};
+ghost use Rattle.prefixed.specs.Begins.{Begun};
+ghost use Rattle.shebang.specs.Places.{none, isBracket, bracketed, Stripped};
+use cursor::Cursor;
+use cursor::Kinded;
+use cursor::Scanned;
+use cursor::Step;
+use text::CodePoint;
+use token::DocStyle;
+use token::TokenKind;
+
+// Where a shebang ends, in bytes, if there is one.
+pub enum Shebang {
+    Ends(usize),
+    Absent,
+}
+
+// Whether a comment is no doc comment.
+fn is_plain(style: DocStyle) -> bool
+    ensures { λ r. ⌜ r ≡ isPlain style ⌝ }
+{
+    match style {
+        DocStyle::Outer => false,
+        DocStyle::Inner => false,
+        DocStyle::Plain => true,
+    }
+}
+
+// Whether a token is trivia: whitespace, or a comment that is no doc comment.
+fn is_trivia(kind: TokenKind) -> bool
+    ensures { λ r. ⌜ r ≡ isTrivia kind ⌝ }
+{
+    match kind {
+        TokenKind::LineComment { doc_style } => is_plain(doc_style),
+        TokenKind::BlockComment {
+            doc_style,
+            terminated: _,
+        } => is_plain(doc_style),
+        TokenKind::Whitespace => true,
+        _ => false,
+    }
+}
+
+// Whether a token is an opening bracket.
+fn is_bracket(kind: TokenKind) -> bool
+    ensures { λ r. ⌜ r ≡ isBracket kind ⌝ }
+{
+    match kind {
+        TokenKind::OpenBracket => true,
+        _ => false,
+    }
+}
+
+// The token of which c is the first character, with empty lists and frontmatter off.
+fn token_after(text: &[u8], c: CodePoint, from: Cursor) -> Scanned
+    ensures { λ r. ⌜ Begun (plain none c) (now (text .entry)) from r ⌝ }
+{
+    let empty = [0u32; 0];
+    advance::advance_token(text, c, from, false, &empty, &empty, &empty)
+}
+
+// Whether the first token that is no trivia is an opening bracket.
+fn bracket_follows(text: &[u8], from: Cursor) -> bool
+    ensures { λ r. ⌜ r ≡ bracketed none (rest (now (text .entry)) from) ⌝ }
+{
+    let mut cur = from;
+    loop {
+        let Step::Got(c, next) = cur.peek(text) else {
+            return false;
+        };
+        let scanned = token_after(text, c, next);
+        let kinded = scanned.kind;
+        let Kinded::Plain(kind) = kinded else {
+            return false;
+        };
+        if !is_trivia(kind) {
+            return is_bracket(kind);
+        }
+        cur = scanned.next;
+    }
+}
+
+// Up to LF, CR LF or the end.
+fn line_end(text: &[u8], from: Cursor) -> Cursor
+    ensures { λ r. ⌜ r .at ≡ from .at + lineBytes (rest (now (text .entry)) from) ⌝ }
+{
+    let mut cur = from;
+    loop {
+        let Step::Got(c, next) = cur.peek(text) else {
+            return cur;
+        };
+        if c == 0x0A {
+            return cur;
+        }
+        if c == 0x0D {
+            if next.first(text) == 0x0A {
+                return cur;
+            }
+        }
+        cur = next;
+    }
+}
+
+// Where a shebang ends: a text that begins with `#!` has one, unless the first token after it that is no trivia is `[`.
+pub fn shebang_end(text: &[u8]) -> Shebang
+    ensures { λ r. ⌜ Stripped (now (text .entry)) r ⌝ }
+{
+    let start = Cursor::new(0);
+    if start.first(text) != 0x23 {
+        return Shebang::Absent;
+    }
+    let hash = start.bump(text);
+    if hash.first(text) != 0x21 {
+        return Shebang::Absent;
+    }
+    let mark = hash.bump(text);
+    if bracket_follows(text, mark) {
+        return Shebang::Absent;
+    }
+    let end = line_end(text, mark);
+    Shebang::Ends(end.place())
+}
