@@ -8,15 +8,13 @@ use lib.ListN.{length, getD}
 use lib.Dec.{eqb, ltb}
 use borrow.Author.Tests.{eq-eqb, ne-eqb, lt-ltb, le-ltb, ltb-false, eqb-true}
 use native.Mathlib.Omega.{arith}
-use Rattle.basics.specs.Choice.{pick, and, or}
+use Rattle.basics.specs.Choice.{pick}
 use Rattle.basics.specs.Tests.{within}
 use Rattle.basics.proofs.Choices.{below-or-not, inside-within, under-within, over-within}
 use Rattle.refusal.specs.declared.Bad.{Bad}
 use Rattle.refusal.specs.declared.Bad.the-variants as bad
 use Rattle.refusal.specs.declared.Verdict.{Verdict}
 use Rattle.refusal.specs.declared.Verdict.the-variants as verdict
-use Rattle.refusal.specs.declared.Numbers.{Numbers}
-use Rattle.refusal.specs.Numbers.{numbers, badNumbers}
 use Rattle.refusal.specs.Order.{first}
 use Rattle.refusal.proofs.Orders.{first-1, first-2}
 use Rattle.text.specs.Chars.{chars, size, WellFormed}
@@ -30,7 +28,7 @@ use Rattle.lexer.specs.declared.Scan.{Scan}
 use Rattle.lexer.specs.declared.OneToken.{OneToken}
 use Rattle.lexer.specs.declared.OneToken.the-variants.{Given, Position, Refused}
 use Rattle.lexer.specs.Scans.{scanAt}
-use Rattle.lexer.specs.Answers.{tokenVerdict, placed, oneOf, tokenNumbers}
+use Rattle.lexer.specs.Answers.{tokenVerdict, placed, oneOf}
 
 -- POSITIONS
 module _ (s : List ℕ) (at : ℕ) where
@@ -118,17 +116,3 @@ module _ (limit : ℕ) (s a b n : List ℕ) {v : Verdict} (e : v ≡ tokenVerdic
 pub refused-in : {v w : Verdict} (x : OneToken) {bad : Bad} → v ≡ w → v ≡ verdict.Refused bad → Refused bad ≡ oneOf w x
 unfolding oneOf
 refused-in x e k = rw (← e, k)
-
--- BY NUMBER
-module _ {a : OneToken} {x : Scan} (e : a ≡ Given x) where
-  pub numbers-on : x .on ≡ true → numbers 0 (x .next) 1 ≡ tokenNumbers a
-  numbers-on t = rw (e, t)
-
-  pub numbers-off : x .on ≡ false → numbers 0 (x .next) 0 ≡ tokenNumbers a
-  numbers-off t = rw (e, t)
-
-pub numbers-position : {a : OneToken} {at : ℕ} → a ≡ Position at → numbers 4 at 0 ≡ tokenNumbers a
-numbers-position e = rw e
-
-pub numbers-refused : {a : OneToken} {x : Bad} {n : Numbers} → a ≡ Refused x → n ≡ badNumbers x → n ≡ tokenNumbers a
-numbers-refused e m = rw e m

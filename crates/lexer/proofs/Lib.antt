@@ -1,5 +1,6 @@
 mod Scanning
 mod Checks
 mod Others
+mod Numbering
 pub mod Records
 pub mod Answers

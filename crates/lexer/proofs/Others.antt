@@ -7,14 +7,14 @@ use lib.ListN.{length, getD, drop}
 use lib.Dec.{eqb}
 use borrow.Author.Tests.{eq-eqb, ne-eqb}
 use native.Mathlib.Omega.{arith}
-use Rattle.basics.specs.Choice.{pick, and, or}
+use Rattle.basics.specs.Choice.{and, or}
 use Rattle.refusal.specs.declared.Bad.{Bad}
 use Rattle.refusal.specs.declared.Verdict.{Verdict}
 use Rattle.refusal.specs.declared.Verdict.the-variants as verdict
 use Rattle.refusal.specs.Order.{first}
 use Rattle.refusal.proofs.Orders.{first-1, first-2}
 use Rattle.eaters.specs.Look.{begins}
-use Rattle.text.specs.Chars.{chars, WellFormed}
+use Rattle.text.specs.Chars.{chars}
 use Rattle.text.specs.Position.{onBoundary, startsHere}
 use Rattle.text.specs.Verdicts.{tooLong, utf8Verdict, textVerdict}
 use Rattle.text.proofs.Positions.{boundary-byte}
@@ -22,7 +22,7 @@ use Rattle.lists.specs.Rules.{listVerdict, Good}
 use Rattle.classes.specs.Answers.{identVerdict}
 use Rattle.classes.proofs.Checks.{ident-starts, ident-continues}
 use Rattle.token.specs.declared.RawStr.{RawStr}
-use Rattle.token.specs.Lists.{Lists, lent}
+use Rattle.token.specs.Lists.{lent}
 use Rattle.token.specs.Names.{'b', 'c', 'r'}
 use Rattle.token.specs.RawCheck.{rawCheck}
 use Rattle.token.specs.Shebang.{shebang}
@@ -31,10 +31,8 @@ use Rattle.shebang.specs.declared.Shebang.the-variants as ending
 use Rattle.shebang.specs.Places as places
 use Rattle.strings.specs.declared.GuardedAt.{GuardedAt}
 use Rattle.strings.specs.Answers as strings
-use Rattle.lexer.specs.declared.ShebangAnswer.{ShebangAnswer}
 use Rattle.lexer.specs.declared.ShebangAnswer.the-variants.{Ends, Absent, Refused}
 use Rattle.lexer.specs.declared.RawAnswer.the-variants as raw
-use Rattle.lexer.specs.declared.GuardedAnswer.{GuardedAnswer}
 use Rattle.lexer.specs.declared.GuardedAnswer.the-variants as guarded
 use Rattle.lexer.specs.Shebangs.{shebangAt, shebangOf, Stripped}
 use Rattle.lexer.specs.RawChecks.{isPrefix, rawOf, rawAnswer}

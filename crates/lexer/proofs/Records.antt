@@ -1,20 +1,24 @@
 -- Steps one after the other give the records of the text; a position that a step hands back is on a boundary.
 use Prim.Native.Nat.{ℕ, zero, suc, _+_, _-_, _≤_}
 use mathlib.Core.Path.{_≡_, refl, sym, ap, _∙_}
-use mathlib.Core.Bool.{Bool, true}
-use mathlib.Core.List.{List, [], _∷_}
-use lib.ListN.{length, take, drop, length-drop}
+use mathlib.Core.Bool.{Bool, true, false}
+use mathlib.Core.List.{List, [], _∷_, _++_, append-assoc}
+use lib.ListN.{length, take, drop, take-append-drop}
+use lib.Dec.{eqb, leb}
 use lib.Seq.{drop-drop}
+use borrow.Author.Tests.{le-leb}
 use native.Mathlib.Omega.{arith}
+use Rattle.basics.specs.Choice.{or}
 use Rattle.text.specs.Chars.{chars, width, size}
-use Rattle.text.specs.Position.{onBoundary}
+use Rattle.text.specs.Position.{edge, onBoundary}
+use Rattle.text.proofs.Positions.{boundary-parts}
 use Rattle.text.proofs.Coding.{Fact}
 use Rattle.text.proofs.Texts.{by-chars}
 use Rattle.token.specs.declared.Token as token
 use Rattle.token.specs.Lists.{Lists}
 use Rattle.token.specs.Advance.{advance}
-use Rattle.token.specs.Tokens.{tokens, placed, records}
-use Rattle.token.proofs.Cover.{tokens-step, advance-room}
+use Rattle.token.specs.Tokens.{tokens, placed}
+use Rattle.token.proofs.Cover.{tokens-step, advance-room, size-append}
 use Rattle.lexer.specs.Scans.{bytesOf, scanAt}
 
 -- the records from a position on
@@ -55,3 +59,28 @@ module _ (L : Lists) (s : List ℕ) (at : ℕ) (on : Bool) where
     where
       row : List ℕ → List token.Token
       row l = record { kind = advance L on l .said .kind; len = bytesOf L on l; start = at } ∷ placed (at + bytesOf L on l) (tokens L (advance L on l .said .on) (drop (advance L on l .took) l))
+
+-- characters end where their bytes do
+edge-size : (u v : List ℕ) → edge (u ++ v) (size u) ≡ true
+unfolding edge
+edge-size [] [] = refl
+edge-size [] (c ∷ v) = refl
+edge-size (c ∷ u) v =
+    let k : width c + size u - width c ≡ size u = omega arith in
+    let m : leb (width c) (width c + size u) ≡ true = le-leb (width c) (width c + size u) (omega arith) in
+    either (eqb (width c + size u) 0) (rw (m, k) (edge-size u v))
+  where
+    either : (t : Bool) {b : Bool} → b ≡ true → or t b ≡ true
+    either true e = refl
+    either false e = e
+
+-- THE NEXT POSITION is on a boundary where this one is: handed back, it is never refused
+pub next-boundary : (L : Lists) (s : List ℕ) (at : ℕ) (on : Bool) → onBoundary s at ≡ true → onBoundary s (scanAt L s at on .next) ≡ true
+unfolding scanAt bytesOf
+next-boundary L s at on e =
+    let p = boundary-parts s at e in
+    let cs = chars (drop at s) in
+    let k = advance L on cs .took in
+    let w : (p .before ++ take k cs) ++ drop k cs ≡ chars s = append-assoc (p .before) (take k cs) (drop k cs) ∙ ap (λ (l : List ℕ). p .before ++ l) (take-append-drop k cs) ∙ p .joined in
+    let n : size (p .before ++ take k cs) ≡ at + size (take k cs) = size-append (p .before) (take k cs) ∙ ap (λ (m : ℕ). m + size (take k cs)) (p .bytes) in
+    sym (ap (λ (l : List ℕ). edge l (at + size (take k cs))) w) ∙ sym (ap (edge ((p .before ++ take k cs) ++ drop k cs)) n) ∙ edge-size (p .before ++ take k cs) (drop k cs)

@@ -1,8 +1,8 @@
 -- The step, in the facts of the code.
-use Prim.Native.Nat.{ℕ, suc, _+_, _-_, _*_, _^_, _≤_, _<_}
-use mathlib.Core.Path.{_≡_, refl, sym, ap, subst, _∙_}
+use Prim.Native.Nat.{ℕ, _+_, _-_, _≤_}
+use mathlib.Core.Path.{_≡_, sym, ap, subst, _∙_}
 use mathlib.Core.Bool.{Bool}
-use mathlib.Core.List.{List, [], _∷_, _++_}
+use mathlib.Core.List.{List, [], _∷_}
 use lib.ListN.{length, take, drop, length-drop}
 use mir.Val.{Fits}
 use mir.Syntax.{w64}
@@ -10,7 +10,6 @@ use native.Mathlib.Omega.{arith}
 use Rattle.basics.specs.Choice.{and}
 use Rattle.text.specs.Chars.{chars, width, size}
 use Rattle.text.proofs.Texts.{size-chars, width-some}
-use Rattle.eaters.specs.Eat.{Eater}
 use Rattle.token.specs.declared.LiteralKind.{LiteralKind}
 use Rattle.token.specs.declared.TokenKind.{TokenKind}
 use Rattle.token.specs.declared.TokenKind.the-variants as kind

@@ -8,6 +8,7 @@ use Rattle.refusal.specs.declared.Verdict.the-variants as verdict
 use Rattle.refusal.specs.Numbers.{numbers, badNumbers}
 use Rattle.text.specs.Position.{onBoundary}
 use Rattle.classes.specs.Answers.{identVerdict}
+use Rattle.token.specs.declared.Guarded.{Guarded}
 use Rattle.token.specs.declared.Guarded.the-variants.{Found, NotFound}
 use Rattle.token.specs.Lists.{lent}
 use Rattle.strings.specs.Answers as strings
@@ -24,3 +25,13 @@ guardPlaced s starts continues at = pick (onBoundary s at) (Given (strings.guard
 -- the checks are is_ident's: the same two lists
 abbrev pub guardedAnswer : (limit : ℕ) (s starts continues : List ℕ) (at : ℕ) → GuardedAnswer
 guardedAnswer limit s starts continues at = guardedOf (identVerdict limit s starts continues) (guardPlaced s starts continues at)
+
+-- by number: done is 0, with the position where the cursor then stands, and 1 where a string is found
+abbrev pub isFound : Guarded → ℕ
+isFound (Found string) = 1
+isFound NotFound = 0
+
+abbrev pub guardedNumbers : GuardedAnswer → Numbers
+guardedNumbers (Given x) = numbers 0 (x .next) (isFound (x .found))
+guardedNumbers (Position at) = numbers 4 at 0
+guardedNumbers (Refused bad) = badNumbers bad

@@ -12,7 +12,9 @@ use Rattle.refusal.specs.Numbers.{numbers, badNumbers}
 use Rattle.eaters.specs.Look.{begins}
 use Rattle.text.specs.Chars.{chars}
 use Rattle.text.specs.Verdicts.{textVerdict}
+use Rattle.token.specs.declared.RawStr.{RawStr}
 use Rattle.token.specs.declared.RawStr.the-variants.{Good, Bad}
+use Rattle.token.specs.declared.RawStrError.{RawStrError}
 use Rattle.token.specs.declared.RawStrError.the-variants.{InvalidStarter, NoTerminator, TooManyDelimiters}
 use Rattle.token.specs.Names.{'b', 'c', 'r'}
 use Rattle.token.specs.RawCheck.{rawCheck}
@@ -33,10 +35,16 @@ abbrev pub rawAnswer : (s : List ℕ) (prefix : ℕ) → RawAnswer
 rawAnswer s prefix = rawOf (textVerdict s) (pick (isPrefix s prefix) (Checked (rawCheck prefix (chars (drop prefix s)))) Prefix)
 
 -- by number: done is 0, with the case of the check (0 good, 1 no quote, 2 no end, 3 too many hashes) and its first number
+abbrev pub errorNumbers : RawStrError → Numbers
+errorNumbers (InvalidStarter c) = numbers 0 1 c
+errorNumbers (NoTerminator expected found offset) = numbers 0 2 expected
+errorNumbers (TooManyDelimiters found) = numbers 0 3 found
+
+abbrev pub checkNumbers : RawStr → Numbers
+checkNumbers Good = numbers 0 0 0
+checkNumbers (Bad error) = errorNumbers error
+
 abbrev pub rawNumbers : RawAnswer → Numbers
-rawNumbers (Checked Good) = numbers 0 0 0
-rawNumbers (Checked (Bad (InvalidStarter c))) = numbers 0 1 c
-rawNumbers (Checked (Bad (NoTerminator expected found offset))) = numbers 0 2 expected
-rawNumbers (Checked (Bad (TooManyDelimiters found))) = numbers 0 3 found
+rawNumbers (Checked check) = checkNumbers check
 rawNumbers Prefix = numbers 8 0 0
 rawNumbers (Refused bad) = badNumbers bad

@@ -4,6 +4,7 @@ ghost use Prim.Native.Nat.{_≤_};
 ghost use mathlib.Core.List.{[], _∷_};
 ghost use lib.ListN.{length};
 ghost use Rattle.eaters.specs.Look.{begins};
+ghost use Rattle.refusal.specs.Numbers.{numbers};
 ghost use Rattle.text.specs.Position.{startsHere};
 ghost use Rattle.lists.specs.Rules.{Good};
 ghost use Rattle.token.specs.Lists.{lent};
@@ -11,9 +12,9 @@ ghost use Rattle.token.specs.Names.{'r'};
 ghost use Rattle.cursor.specs.Ran.{kindFrom};
 ghost use Rattle.lexer.specs.Scans.{Narrow, scanAt};
 ghost use Rattle.lexer.specs.Answers.{tokenVerdict, oneToken, tokenNumbers};
-ghost use Rattle.lexer.specs.Shebangs.{Stripped};
-ghost use Rattle.lexer.specs.RawChecks.{isPrefix, rawAnswer};
-ghost use Rattle.lexer.specs.Guards.{guardedAnswer};
+ghost use Rattle.lexer.specs.Shebangs.{Stripped, shebangNumbers};
+ghost use Rattle.lexer.specs.RawChecks.{isPrefix, rawAnswer, errorNumbers, checkNumbers, rawNumbers};
+ghost use Rattle.lexer.specs.Guards.{guardedAnswer, isFound, guardedNumbers};
 use cursor::Cursor;
 use cursor::Kinded;
 use cursor::Step;
@@ -22,7 +23,9 @@ use refusal::Numbers;
 use refusal::Verdict;
 use shebang::Shebang;
 use strings::GuardedAt;
+use token::Guarded;
 use token::RawStr;
+use token::RawStrError;
 use token::Token;
 use token::TokenKind;
 
@@ -98,6 +101,24 @@ pub fn step(
     }
 }
 
+// Done, with the numbers that a call says.
+fn done(beside: usize, second: usize) -> Numbers
+    ensures { λ r. ⌜ r ≡ numbers 0 beside second ⌝ }
+{
+    Numbers {
+        number: 0,
+        beside,
+        second,
+    }
+}
+
+// One of 000's numbers as a count.
+fn wide(n: u32) -> usize
+    ensures { λ r. ⌜ r ≡ n ⌝ }
+{
+    n as usize
+}
+
 // What the one-token call says: a token, or that the position is past the end or inside a character (4), or a refusal (1, 3, 2).
 pub enum OneToken {
     Given(Scan),
@@ -112,17 +133,9 @@ pub fn token_numbers(answer: OneToken) -> Numbers
     match answer {
         OneToken::Given(scan) => {
             if scan.on {
-                return Numbers {
-                    number: 0,
-                    beside: scan.next,
-                    second: 1,
-                };
+                return done(scan.next, 1);
             }
-            Numbers {
-                number: 0,
-                beside: scan.next,
-                second: 0,
-            }
+            done(scan.next, 0)
         }
         OneToken::Position(at) => Numbers {
             number: 4,
@@ -192,6 +205,17 @@ pub enum ShebangAnswer {
     Refused(Bad),
 }
 
+// The answer by number.
+pub fn shebang_numbers(answer: ShebangAnswer) -> Numbers
+    ensures { λ r. ⌜ r ≡ shebangNumbers answer ⌝ }
+{
+    match answer {
+        ShebangAnswer::Ends(at) => done(at, 0),
+        ShebangAnswer::Absent => done(0, 0),
+        ShebangAnswer::Refused(bad) => refusal::bad_numbers(bad),
+    }
+}
+
 // PUBLIC. Where a shebang ends: 000's `strip_shebang`. Refusals 1 and 2 in this order. No list is lent: any lists give the same answer.
 pub fn strip_shebang(text: &[u8]) -> ShebangAnswer
     ensures { λ r. ⌜ Stripped (now (text .entry)) r ⌝ }
@@ -210,6 +234,46 @@ pub enum RawAnswer {
     Checked(RawStr),
     Prefix,
     Refused(Bad),
+}
+
+// What is wrong with a raw string, by number.
+fn error_numbers(error: RawStrError) -> Numbers
+    ensures { λ r. ⌜ r ≡ errorNumbers error ⌝ }
+{
+    match error {
+        RawStrError::InvalidStarter { bad_char } => done(1, wide(bad_char)),
+        RawStrError::NoTerminator {
+            expected,
+            found: _,
+            possible_terminator_offset: _,
+        } => done(2, wide(expected)),
+        RawStrError::TooManyDelimiters { found } => done(3, wide(found)),
+    }
+}
+
+// What the raw check says, by number.
+fn check_numbers(check: RawStr) -> Numbers
+    ensures { λ r. ⌜ r ≡ checkNumbers check ⌝ }
+{
+    match check {
+        RawStr::Good => done(0, 0),
+        RawStr::Bad(error) => error_numbers(error),
+    }
+}
+
+// The answer by number.
+pub fn raw_numbers(answer: RawAnswer) -> Numbers
+    ensures { λ r. ⌜ r ≡ rawNumbers answer ⌝ }
+{
+    match answer {
+        RawAnswer::Checked(check) => check_numbers(check),
+        RawAnswer::Prefix => Numbers {
+            number: 8,
+            beside: 0,
+            second: 0,
+        },
+        RawAnswer::Refused(bad) => refusal::bad_numbers(bad),
+    }
 }
 
 // Whether a text begins with these bytes, the second of them an r.
@@ -262,6 +326,34 @@ pub enum GuardedAnswer {
     Given(GuardedAt),
     Position(usize),
     Refused(Bad),
+}
+
+// 1 where a string is found.
+fn is_found(found: Guarded) -> usize
+    ensures { λ r. ⌜ r ≡ isFound found ⌝ }
+{
+    match found {
+        Guarded::Found(_) => 1,
+        Guarded::NotFound => 0,
+    }
+}
+
+// The answer by number.
+pub fn guarded_numbers(answer: GuardedAnswer) -> Numbers
+    ensures { λ r. ⌜ r ≡ guardedNumbers answer ⌝ }
+{
+    match answer {
+        GuardedAnswer::Given(given) => {
+            let found = given.found;
+            done(given.next, is_found(found))
+        }
+        GuardedAnswer::Position(at) => Numbers {
+            number: 4,
+            beside: at,
+            second: 0,
+        },
+        GuardedAnswer::Refused(bad) => refusal::bad_numbers(bad),
+    }
 }
 
 // PUBLIC. The guarded string at a position: 000's `guarded_double_quoted_string`, and where its cursor then stands. Refusals 1, 3, 2 and 4 in

@@ -1,42 +1,30 @@
+-- `lexer::advance_token` meets its contract. What the verdict lets through, and the position (Checks).
 use Rattle.lexer.proofs.Checks.{step-ready, given-in, position-in, refused-in}
 use borrow.Author.Needs.{needs}
 use Rattle.lexer.proofs.advance_token.Statement.{statement}
 use Rattle.lexer.proofs.advance_token.Tie as tie
-use Rattle.lexer.proofs.advance_token.Reads as reads
-use Rattle.lexer.proofs.advance_token.Lts as lts
-use Rattle.lexer.proofs.starts_here.Reads as starts-here-reads
-use Rattle.lexer.proofs.step.Reads as step-reads
-use Rattle.lexer.proofs.token_verdict.Reads as token-verdict-reads
 
--- src/lib.rt:168:11
 token-verdict-requires : tie.Need-token-verdict-requires
 token-verdict-requires c κs = search needs
 
--- src/lib.rt:170:16
 enum-told : tie.Need-enum-told
 enum-told c = search needs
 
--- src/lib.rt:170:16
 starts-here-requires : tie.Need-starts-here-requires
 starts-here-requires c κs = search needs
 
--- src/lib.rt:171:40
 step-requires : tie.Need-step-requires
 step-requires c κs = step-ready _ _ _ _ _ (c .before .before .before .before .token-verdict .ensures) (c .before .before .enum-told .given .1)
 
--- src/lib.rt:171:17
 returns : tie.Need-returns
 returns c = search given-in
 
--- src/lib.rt:175:26
 enum-known-bad : tie.Need-enum-known-bad
 enum-known-bad c = search needs
 
--- src/lib.rt:158:1
 returns-2 : tie.Need-returns-2
 returns-2 c = search position-in
 
--- src/lib.rt:158:1
 returns-3 : tie.Need-returns-3
 returns-3 c = search refused-in
 
