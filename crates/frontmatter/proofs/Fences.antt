@@ -1,10 +1,8 @@
 -- Dashes and fences, in the facts of the code.
-use Prim.Native.Nat.{ℕ, zero, suc, _+_, _*_, _^_, _≤_, _<_}
+use Prim.Native.Nat.{ℕ, zero, suc, _≤_, _<_}
 use mathlib.Core.Path.{_≡_, refl, sym, ap, _∙_}
 use mathlib.Core.Bool.{Bool, true, false}
 use mathlib.Core.List.{List, [], _∷_}
-use mir.Val.{Fits}
-use mir.Syntax.{w64}
 use lib.Dec.{eqb}
 use lib.ListN.{length, drop}
 use native.Mathlib.Omega.{arith}
@@ -21,8 +19,7 @@ use Rattle.cursor.specs.declared.Step.the-variants.{Got, Over}
 use Rattle.cursor.specs.Cursors.{rest, Seen}
 use Rattle.cursor.specs.Moved.{over, arrive, left-of, no-more}
 use Rattle.cursor.proofs.Moves.{char-at, end-at}
-use Rattle.cursor.proofs.Steps.{rest-short}
-use Rattle.cursor.proofs.Loops.{Eaten, eaten-none, eaten-on, eaten-off, eaten-over}
+use Rattle.cursor.proofs.Counts.{Counting, AllCounted, counting-off, counting-over}
 use Rattle.frontmatter.specs.declared.Dashes.{Dashes}
 use Rattle.frontmatter.specs.declared.Sought.the-variants.{At, Nowhere}
 use Rattle.frontmatter.specs.Searches.{SoughtAt}
@@ -33,43 +30,16 @@ use Rattle.frontmatter.proofs.Seeks.{shift, shift-none, shift-more, shi
 abbrev run : List ℕ → ℕ
 run cs = length (takeWhile (is '-') cs)
 
-run-on : (c : ℕ) (cs : List ℕ) → c ≡ 0x2D → run (c ∷ cs) ≡ suc (run cs)
-run-on c cs e = rw e
+-- all of them (Counts of the cursor)
+module _ {s : List ℕ} {a b : Cursor} {n : ℕ} {r : Step} (i : Counting '-' s a b n) (h : Seen s b r) where
+  all : AllCounted '-' s a b n → Dashed s a (record { next = b; count = n })
+  all k = record { moved = k .moved; count = k .count }
 
-run-off : (c : ℕ) (cs : List ℕ) → (c ≡ 0x2D → ⊥) → run (c ∷ cs) ≡ 0
-run-off c cs n = rw (ne-eqb c 0x2D n)
-
--- as many are counted as were passed; the others are still there
-pub record Counting (s : List ℕ) (a b : Cursor) (n : ℕ) : Type 0 where
-  pub eaten : Eaten (is '-') s a b
-  pub count : n + run (rest s b) ≡ run (rest s a)
-  pub few : n + length (rest s b) ≤ length (rest s a)
-
-pub counting-none : (s : List ℕ) (a : Cursor) → Counting s a a 0
-counting-none s a = record { eaten = eaten-none (is '-') s a; count = omega arith; few = omega arith }
-
-module _ {s : List ℕ} {a b : Cursor} {n : ℕ} {r : Step} (i : Counting s a b n) (h : Seen s b r) where
-  module _ {x : ℕ} {d : Cursor} (e : r ≡ Got x d) where
-    pub counting-fits : length s * 1 < 2 ^ 63 → Fits w64 (n + 1)
-    counting-fits g = record { fits = omega (arith, ap length (char-at e h .chars), i .few, rest-short s a) }
-
-    pub counting-on : x ≡ 0x2D → Counting s a d (n + 1)
-    counting-on q =
-        record {
-          eaten = eaten-on (is '-') (i .eaten) h e (sym (ap (is '-') q)) refl;
-          count = omega (arith, i .count, ap run (char-at e h .chars), run-on x (rest s d) q);
-          few = omega (arith, i .few, ap length (char-at e h .chars));
-        }
-
-    pub counted-off : (x ≡ 0x2D → ⊥) → Dashed s a (record { next = b; count = n })
-    counted-off q =
-        record {
-          moved = eaten-off (is '-') (i .eaten) h e (sym (ne-eqb x 0x2D q)) refl;
-          count = omega (arith, i .count, ap run (char-at e h .chars), run-off x (rest s d) q);
-        }
+  pub counted-off : {x : ℕ} {d : Cursor} → r ≡ Got x d → (x ≡ 0x2D → ⊥) → Dashed s a (record { next = b; count = n })
+  counted-off e q = all (counting-off i h e q)
 
   pub counted-over : r ≡ Over → Dashed s a (record { next = b; count = n })
-  counted-over e = record { moved = eaten-over (is '-') (i .eaten) h e; count = omega (arith, i .count, ap run (end-at e h)) }
+  counted-over e = all (counting-over i h e)
 
 -- THE FENCE: n dashes are there exactly where n or more are counted
 many : (n : ℕ) (cs : List ℕ) → n ≤ run cs → begins (dashes n) cs ≡ true

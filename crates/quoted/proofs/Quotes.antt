@@ -6,7 +6,7 @@ use mathlib.Core.List.{List}
 use lib.ListN.{getD, drop}
 use borrow.Author.Tests.{ne-eqb}
 use Rattle.basics.specs.Choice.{and}
-use Rattle.eaters.specs.Eat.{give, eat, _>>=_, _>>_}
+use Rattle.eaters.specs.Eat.{give, eat, _>>_}
 use Rattle.eaters.specs.Scan.{Turn, scan}
 use Rattle.token.specs.Names.{is, 'single', '\'}
 use Rattle.token.specs.Quotes.{doubleTurn, singleTurn, single}

@@ -1,5 +1,6 @@
--- `quoted::eat_hashes` meets its contract. `Counting`: the hashes so far, and their number (Pounds).
-use Rattle.quoted.proofs.Pounds.{Counting, counting-none, counting-fits, counting-on, counted-off, counted-over}
+-- `quoted::eat_hashes` meets its contract. `Counting`: the hashes so far, and their number (Pounds, and Counts of the cursor).
+use Rattle.quoted.proofs.Pounds.{counted-off, counted-over}
+use Rattle.cursor.proofs.Counts.{Counting, counting-none, counting-fits, counting-on}
 use Rattle.cursor.proofs.Moves.{fewer-1}
 use Rattle.cursor.specs.Cursors.{rest}
 use lib.ListN.{length}
@@ -8,13 +9,13 @@ use Rattle.quoted.proofs.eat_hashes.Statement.{statement}
 use Rattle.quoted.proofs.eat_hashes.Tie as tie
 
 abbrev Inv-loop : tie.InvT-loop
-Inv-loop text cur₀ count₀ cur count = Counting text cur₀ cur count
+Inv-loop text cur₀ count₀ cur count = Counting 0x23 text cur₀ cur count
 
 abbrev μ-loop : tie.MeasureT-loop
 μ-loop text cur₀ count₀ cur count = length (rest text cur)
 
 loop-holds : tie.Need-loop-holds Inv-loop μ-loop
-loop-holds c = counting-none _ _
+loop-holds c = counting-none _ _ _
 
 peek-requires : tie.Need-peek-requires Inv-loop μ-loop
 peek-requires c κs = search needs
