@@ -1,0 +1,2 @@
+mod Filling
+pub mod Answers

@@ -1,0 +1,30 @@
+-- `lines::token_at` meets its contract. Empty lists are good (Filling).
+use Rattle.lines.proofs.Filling.{good-empty}
+use borrow.Author.Needs.{needs}
+use Rattle.lines.proofs.token_at.Statement.{statement}
+use Rattle.lines.proofs.token_at.Tie as tie
+
+slice-aggregate-step : tie.Need-slice-aggregate-step
+slice-aggregate-step c = search needs
+
+slice-aggregate-step-2 : tie.Need-slice-aggregate-step-2
+slice-aggregate-step-2 c = search needs
+
+slice-aggregate-step-3 : tie.Need-slice-aggregate-step-3
+slice-aggregate-step-3 c = search needs
+
+step-requires : tie.Need-step-requires
+step-requires c κs = search (needs, good-empty)
+
+returns : tie.Need-returns
+returns c = search needs
+
+pub token-at-spec : {M : Type 1} → statement M
+token-at-spec =
+    tie.close
+    (tie.spec
+    slice-aggregate-step
+    slice-aggregate-step-2
+    slice-aggregate-step-3
+    step-requires
+    returns)

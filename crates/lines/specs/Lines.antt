@@ -1,0 +1,38 @@
+-- The lines of the tokens of a text, with empty lists and frontmatter off (document 01, the small program): a line a token, and none for Eof.
+use Prim.Native.Nat.{ℕ, _+_, _-_}
+use mathlib.Core.Bool.{false}
+use mathlib.Core.List.{List, [], _∷_, _++_}
+use lib.Dec.{ltb}
+use lib.ListN.{length, drop}
+use Rattle.basics.specs.Choice.{pick}
+use Rattle.text.specs.Chars.{chars}
+use Rattle.token.specs.declared.Token.{Token}
+use Rattle.token.specs.Lists.{Lists, lent}
+use Rattle.token.specs.Tokens.{tokens, placed}
+use Rattle.names.specs.Line.{line}
+
+-- empty lists
+abbrev pub none : Lists
+none = lent [] [] []
+
+-- the tokens of a text from a position on
+abbrev pub tokensFrom : (s : List ℕ) (at : ℕ) → List Token
+tokensFrom s at = placed at (tokens none false (chars (drop at s)))
+
+-- the lines of tokens, one after the other
+abbrev pub linesOf : List Token → List ℕ
+linesOf [] = []
+linesOf (t ∷ ts) = line (t .kind) (t .len) ++ linesOf ts
+
+-- the bytes of tokens
+abbrev pub bytes : List Token → ℕ
+bytes [] = 0
+bytes (t ∷ ts) = t .len + bytes ts
+
+abbrev pub linesFrom : (s : List ℕ) (at : ℕ) → List ℕ
+linesFrom s at = linesOf (tokensFrom s at)
+
+-- the first tokens whose lines are put into so many bytes: as long as the longest line, of 33 bytes, would fit
+abbrev pub fitting : (room : ℕ) → List Token → List Token
+fitting room [] = []
+fitting room (t ∷ ts) = pick (ltb room 33) [] (t ∷ fitting (room - length (line (t .kind) (t .len))) ts)

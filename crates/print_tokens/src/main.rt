@@ -1,0 +1,62 @@
+// The tokens of standard input, with empty lists and frontmatter off: a line a token, its kind and its length in bytes parted by a tab.
+// More than 65,536 bytes are refused as too long: `refused`, a tab, 1, a tab, 0. Input that is not UTF-8 is refused likewise, as 2 and
+// with the place of the first ill-formed sequence. A refused input gives no other line.
+ghost use mathlib.Core.Path.{_≡_};
+ghost use Prim.Native.Nat.{_≤_};
+ghost use lib.ListN.{length};
+use libc::STDIN_FILENO;
+use libc::STDOUT_FILENO;
+use refusal::Numbers;
+use refusal::Verdict;
+
+// Zeros for the input and one byte more, which tells longer input. Only the length is told, so that no proof unfolds the zeros.
+fn input_room() -> [u8; 65537]
+    ensures { λ r. ⌜ 65537 ≡ length r ⌝ }
+{
+    [0; 65537]
+}
+
+// Zeros for the lines that are written at once.
+fn output_room() -> [u8; 16384]
+    ensures { λ r. ⌜ 16384 ≡ length r ⌝ }
+{
+    [0; 16384]
+}
+
+fn say_refused(n: Numbers) {
+    io::write_all(STDOUT_FILENO, b"refused\t");
+    io::print_decimal(STDOUT_FILENO, n.number as u64);
+    io::write_all(STDOUT_FILENO, b"\t");
+    io::print_decimal(STDOUT_FILENO, n.beside as u64);
+    io::write_all(STDOUT_FILENO, b"\n");
+}
+
+// Writes the lines part by part, each as long as the room. A part that stands still is the end.
+fn say_tokens(text: &[u8])
+    requires { ⌜ length (now text) ≤ 65536 ⌝ }
+{
+    let mut out = output_room();
+    let mut at = 0;
+    loop {
+        let chunk = lines::fill(text, at, &mut out);
+        if chunk.next == at {
+            return;
+        }
+        let used = chunk.used;
+        io::write_all(STDOUT_FILENO, &out[..used]);
+        at = chunk.next;
+    }
+}
+
+fn main() {
+    let mut buf = input_room();
+    let n = io::read_full(STDIN_FILENO, &mut buf);
+    if 65536 < n {
+        say_refused(refusal::bad_numbers(refusal::Bad::TooLong));
+        return;
+    }
+    match text::check_text(&buf[..n]) {
+        Verdict::Refused(bad) => say_refused(refusal::bad_numbers(bad)),
+        Verdict::Fine => say_tokens(&buf[..n]),
+    }
+}
