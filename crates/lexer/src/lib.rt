@@ -36,7 +36,7 @@ pub struct Scan {
     pub on: bool,
 }
 
-// The one place where a count becomes one of 000's numbers.
+// A count as one of 000's numbers.
 fn narrow(n: usize) -> u32
     requires { ⌜ n ≤ 4294967295 ⌝ }
     ensures { λ r. ⌜ r ≡ n ⌝ }
