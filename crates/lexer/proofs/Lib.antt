@@ -1,5 +1,5 @@
 mod Scanning
-mod Checks
+pub mod Checks
 mod Others
 mod Numbering
 pub mod Records

@@ -162,6 +162,12 @@ fn answer(
             out,
             classes::answer_numbers(classes::is_ident(input, starts, continues)),
         ),
+        9 => replies::one_token(input, starts, continues, emoji, out),
+        10 => replies::tokens(input, starts, continues, emoji, out),
+        11 => replies::shebang(input, out),
+        12 => replies::raw_check(input, out),
+        13 => replies::guarded_string(input, starts, continues, out),
+        14 => replies::tokens_once(input, starts, continues, emoji, out),
         _ => 0,
     }
 }
@@ -376,7 +382,7 @@ fn say(t: Tally) {
     }
 }
 
-// Zeros for a file and one byte more, and for an answer.
+// Zeros for a file and one byte more.
 fn file_room() -> [u8; 262145]
     ensures { λ r. ⌜ 262145 ≡ length r ⌝ }
 {
@@ -407,7 +413,7 @@ fn file(path: &[u8]) -> Tally {
     if 262144 < n {
         return nothing();
     }
-    let mut out = io::buffer();
+    let mut out = io::large_buffer();
     sections(&s[..n], &mut out)
 }
 

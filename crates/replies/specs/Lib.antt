@@ -1,0 +1,4 @@
+pub mod Run
+pub mod Bytes
+pub mod Replies
+pub mod Walk
