@@ -8,7 +8,9 @@ FILE_LIMIT = 262144
 ANSWER_LIMIT = 65536
 
 VERDICT, VERDICT_AFTER, WHITESPACE, HORIZONTAL, START, CONTINUE, EMOJI, IDENT = range(1, 9)
-ONE, TOKENS, SHEBANG, RAW, GUARDED, TOKENS_ONCE = range(9, 15)
+ONE, TOKENS, SHEBANG, RAW, GUARDED, TOKENS_ONCE, LIST, SLOTS = range(9, 17)
+# The records that operation 15 lends.
+RECORDS = 64
 CLASS_NAMES = {
     WHITESPACE: "whitespace",
     HORIZONTAL: "horizontal",
@@ -36,7 +38,7 @@ def section(lists, vectors):
 
 
 # Operations from ONE on: the least bytes handed in, and the bytes of an answer that is no refusal.
-SIZES = {ONE: (8, 28), SHEBANG: (0, 12), RAW: (4, 24), GUARDED: (4, 24)}
+SIZES = {ONE: (8, 28), SHEBANG: (0, 12), RAW: (4, 24), GUARDED: (4, 24), SLOTS: (8, 12)}
 
 
 def of_the_format(operation, handed_in, answer):
@@ -49,6 +51,8 @@ def of_the_format(operation, handed_in, answer):
     if operation in (TOKENS, TOKENS_ONCE):
         whole = answer % 16 == 0 and 0 < answer <= ANSWER_LIMIT
         return handed_in >= 4 and (whole or answer == 12)
+    if operation == LIST:
+        return handed_in >= 4 and answer == 12 + 16 * RECORDS
     if operation in SIZES:
         least, size = SIZES[operation]
         return handed_in >= least and answer in (12, size)

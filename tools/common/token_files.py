@@ -1,9 +1,9 @@
-"""Which vectors of operations 9 to 14 are stored, file by file. tools/oracle/README.md describes them."""
+"""Which vectors of operations 9 to 16 are stored, file by file. tools/oracle/README.md describes them."""
 
 import sys
 
 from common.lists import EVERYTHING, GOOD, NO_LISTS, counted_lists, full_list, refused_lists
-from common.packing import ANSWER_LIMIT, TOKENS, TOKENS_ONCE, numbers_of, section, vector
+from common.packing import ANSWER_LIMIT, RECORDS, TOKENS, TOKENS_ONCE, numbers_of, section, vector
 from common.texts import (
     EDGES, EMOJI_ONLY, ILL_FORMED, LINE, NO_EMOJI, OTHER_ROWS, POINTS, RAW_STARTS, ROWS, SHORT,
     damaged, glued, has_others, listed_requests, long_section, over, random_section, rows, tokens,
@@ -216,6 +216,53 @@ class Files:
             sys.exit("the longest answer is not as meant")
         return tokens("on", text)
 
+    # ---- the list call ----
+
+    def listed_texts(self):
+        """Mode and text: the rows, even parts of the edges, random ones, and texts of as many tokens as there are records, one less and one more."""
+        texts = [(MODES.index(mode), text.encode("utf-8")) for mode, text, _ in ROWS]
+        asked = [line for name in EDGES for line in EDGES[name]() if line.startswith("tokens")]
+        asked = spread(asked, 70) + [line for line in random_section(3 * SEED + 9, glued, 60) if line.startswith("tokens")]
+        for line in asked:
+            _, mode, *words = line.split()
+            texts.append((MODES.index(mode), bytes.fromhex("".join(words))))
+        for count in (RECORDS - 1, RECORDS, RECORDS + 1):
+            texts += [(0, b";" * count), (1, b" ;" * (count // 2) + b" " * (count % 2)), (1, b"---\n---\n" + b"a " * ((count - 2) // 2) + b"b" * (count % 2))]
+        return texts + [(0, b"a+1"), (0, b""), (1, b""), (0, b"+" * 3000), (0, b"a\xff"), (1, b"\xc3")]
+
+    def list_records(self):
+        texts = self.listed_texts()
+
+        def fill(calls):
+            for flag, text in texts:
+                calls.list(flag, text)
+
+        def refused(calls):
+            calls.list(0, b"a")
+            calls.list(1, b"\xff")
+
+        bad = [numbers for numbers, _ in refused_lists()]
+        lists = [(bad[0], GOOD[1], GOOD[2]), (GOOD[0], bad[1], GOOD[2]), (GOOD[0], GOOD[1], bad[2])]
+        others = [(flag, text) for flag, text in texts if any(byte >= 0x80 for byte in text)]
+
+        def fill_real(calls):
+            for flag, text in others[:24]:
+                calls.list(flag, text)
+
+        return [self.section(NO_LISTS, fill), self.section(self.real, fill_real)] + [self.section(lists_, refused) for lists_ in lists]
+
+    def list_slots(self):
+        """No slot, one too few, exactly enough, one more, many."""
+        texts = self.listed_texts()
+
+        def fill(calls):
+            for flag, text in texts:
+                refused, records = calls.records(flag, text)
+                for slots in sorted({0, max(len(records) - 1, 0), len(records), len(records) + 1, 0xFFFFFFFF}):
+                    calls.slots(flag, slots, text)
+
+        return [self.section(NO_LISTS, fill)]
+
     def fence(self):
         """A fence of 65,536 dashes, on which the Rust panics: the paper's rule, a count without a limit, decides.
 
@@ -280,6 +327,8 @@ def make(oracle, real):
     files["token-refused.vec"] = maker.refused()
     files["token-long.vec"], files["token-long-other.vec"] = maker.long()
     files["token-fence.vec"] = maker.fence()
+    files["list-records.vec"] = maker.list_records()
+    files["list-slots.vec"] = maker.list_slots()
     print(
         f"tokens: {maker.panics} panics and {maker.too_long} answers that are too long left out,"
         f" {maker.work} bytes read by calls that check the whole text",

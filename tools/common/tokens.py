@@ -1,4 +1,4 @@
-"""Vectors of the calls that read tokens: operations 9 to 14 of tools/oracle/README.md.
+"""Vectors of the calls that read tokens: operations 9 to 16 of tools/oracle/README.md.
 
 What the Rust can say comes from the oracle. The Rust has no word for a refusal: there the
 rules of the scope paper are applied here, in the plainest way and in the paper's order.
@@ -8,7 +8,7 @@ import sys
 
 from common.lists import bad_index
 from common.packing import (
-    ANSWER_LIMIT, GUARDED, ONE, RAW, SHEBANG, TOKENS, numbers_of, section, vector,
+    ANSWER_LIMIT, GUARDED, LIST, ONE, RAW, RECORDS, SHEBANG, SLOTS, TOKENS, numbers_in, numbers_of, section, vector,
 )
 from common.texts import request
 
@@ -22,6 +22,8 @@ LITERALS = ["Int", "Float", "Char", "Byte", "Str", "ByteStr", "CStr", "RawStr", 
 BASES = ["Binary", "Octal", "Decimal", "Hexadecimal"]
 DOC_STYLES = ["none", "outer", "inner"]
 MODES = ["off", "on"]
+# What a record of operation 15 holds before the call: a Bang of 5 bytes at 3.
+BLANK = (KINDS.index("Bang"), 0, 5, 3)
 
 
 # ---- tokens as numbers ----
@@ -164,6 +166,38 @@ class Calls:
         answer = b"".join(numbers_of(*token) for token in tokens)
         self.too_long += len(answer) > self.answer_limit
         return answer if len(answer) <= self.answer_limit else None
+
+    def records(self, flag, text):
+        """A refusal's numbers, or None and the records of the tokens without Eof: kind code, suffix start, length, start."""
+        refused = self.refusal(3, text)
+        if refused is not None:
+            return refused, []
+        words = self.ask("steps", MODES[flag], text.hex())
+        numbers = numbers_in(self.token_list(flag, text, words))
+        records = []
+        start = 0
+        for at in range(0, len(numbers) - 4, 4):
+            code, suffix, length, _ = numbers[at : at + 4]
+            records.append((code, suffix, length, start))
+            start += length
+        return None, records
+
+    def list(self, flag, text):
+        """With so many records lent: the answer, and what each of them holds then."""
+        refused, records = self.records(flag, text)
+        if refused is None and len(records) > RECORDS:
+            refused = numbers_of(5, len(records), 0)
+        answer = numbers_of(0, len(records), 0) if refused is None else refused
+        held = records if refused is None else []
+        for record in held + [BLANK] * (RECORDS - len(held)):
+            answer += numbers_of(*record)
+        self.add(LIST, numbers_of(flag) + text, answer)
+
+    def slots(self, flag, slots, text):
+        refused, records = self.records(flag, text)
+        if refused is None:
+            refused = numbers_of(0 if len(records) <= slots else 5, len(records), 0)
+        self.add(SLOTS, numbers_of(flag, slots) + text, refused)
 
     def shebang(self, text):
         answer = self.refusal(0, text)

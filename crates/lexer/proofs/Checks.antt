@@ -92,7 +92,7 @@ module _ (limit : ℕ) (s a b n : List ℕ) {v : Verdict} (e : v ≡ tokenVerdic
   unfolding tokenVerdict
   text-fits = fine-long s (first-1 (tooLong s) _ (sym e ∙ k))
 
-  text-well : WellFormed s
+  pub text-well : WellFormed s
   unfolding tokenVerdict
   text-well = fine-utf8 s (first-2 (first (listVerdict limit 0 a) (first (listVerdict limit 1 b) (listVerdict limit 2 n))) _ (first-2 (tooLong s) _ (sym e ∙ k)))
 
