@@ -4,3 +4,4 @@ mod Others
 mod Numbering
 pub mod Records
 pub mod Answers
+pub mod Walks

@@ -19,11 +19,7 @@ use Rattle.token.specs.Lists.{Lists}
 use Rattle.token.specs.Advance.{advance}
 use Rattle.token.specs.Tokens.{tokens, placed}
 use Rattle.token.proofs.Cover.{tokens-step, advance-room, size-append}
-use Rattle.lexer.specs.Scans.{bytesOf, scanAt}
-
--- the records from a position on
-abbrev pub recordsFrom : Lists → (s : List ℕ) (at : ℕ) (on : Bool) → List token.Token
-recordsFrom L s at on = placed at (tokens L on (chars (drop at s)))
+use Rattle.lexer.specs.Scans.{bytesOf, scanAt, recordsFrom}
 
 -- past the bytes of the first k characters, the other characters are left
 pub chars-past : (s : List ℕ) (k : ℕ) → k ≤ length (chars s) → chars (drop (size (take k (chars s))) s) ≡ drop k (chars s)

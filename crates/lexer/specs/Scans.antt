@@ -5,7 +5,9 @@ use mathlib.Core.Bool.{Bool}
 use lib.ListN.{take, drop}
 use Rattle.text.specs.Chars.{chars, size}
 use Rattle.token.specs.Lists.{Lists}
+use Rattle.token.specs.declared.Token as token
 use Rattle.token.specs.Advance.{advance}
+use Rattle.token.specs.Tokens.{tokens, placed}
 use Rattle.cursor.specs.declared.Cursor.{Cursor}
 use Rattle.cursor.specs.declared.Kinded.{Kinded}
 use Rattle.cursor.specs.declared.Kinded.the-variants.{Plain, Literal}
@@ -24,6 +26,10 @@ scanAt L s at on =
       next = at + bytesOf L on cs;
       on = advance L on cs .said .on;
     }
+
+-- the records of a text from a position on
+abbrev pub recordsFrom : Lists → (s : List ℕ) (at : ℕ) (on : Bool) → List token.Token
+recordsFrom L s at on = placed at (tokens L on (chars (drop at s)))
 
 -- where a suffix starts is one of 000's numbers
 abbrev pub Narrow : (from : Cursor) → Kinded → Type 0

@@ -5,8 +5,8 @@ use mathlib.Core.Bool.{Bool, false}
 use mathlib.Core.List.{List, [], _∷_, _++_, append-assoc, append-nil}
 use mathlib.Core.Logic.{_⊎_, inl, inr, ⊎-elim}
 use borrow.Author.Tests.{lt-ltb, le-ltb}
-use lib.ListN.{length, take, drop, length-append, length-drop, take-append-drop}
-use lib.Seq.{take-at, drop-at, drop-drop, length-take-le}
+use lib.ListN.{length, take, drop, length-drop, take-append-drop}
+use lib.Seq.{length-take-le}
 use native.Mathlib.Omega.{arith}
 use Rattle.text.specs.Chars.{chars, size}
 use Rattle.text.proofs.Texts.{width-some}
@@ -16,11 +16,13 @@ use Rattle.token.specs.Advance.{advance}
 use Rattle.token.specs.Tokens.{tokensAfter, tokens, placed}
 use Rattle.token.proofs.Cover.{advance-some, off-stays}
 use Rattle.lexer.specs.declared.Scan.{Scan}
-use Rattle.lexer.specs.Scans.{bytesOf, scanAt}
-use Rattle.lexer.proofs.Records.{recordsFrom, past-token, step-records}
+use Rattle.lexer.specs.Scans.{bytesOf, scanAt, recordsFrom}
+use Rattle.lexer.proofs.Records.{past-token, step-records}
 use Rattle.names.specs.Line.{line}
-use Rattle.names.specs.Put.{laid, Put, PutFew}
-use Rattle.lines.specs.Lines.{none, tokensFrom, linesOf, bytes, linesFrom, fitting}
+use Rattle.puts.specs.Put.{PutFew}
+use Rattle.puts.proofs.Puts.{put-take, put-drop, put-length, kept-on}
+use Rattle.token.specs.Lists.{none}
+use Rattle.lines.specs.Lines.{tokensFrom, linesOf, bytes, linesFrom, fitting}
 use Rattle.lines.specs.Filled.{chosen, Filled}
 
 -- empty lists are good
@@ -106,30 +108,6 @@ filling-starts {s} {out} {at} =
       room = omega arith;
       moved = inl (refl, refl);
     }
-
--- what bytes put past others are
-module _ {xs o p : List ℕ} {at r : ℕ} (u : Put xs o at p r) where
-  front : p ≡ (take at o ++ xs) ++ drop r o
-  unfolding laid
-  front = u .holds ∙ sym (append-assoc (take at o) xs (drop (at + length xs) o)) ∙ ap (λ (k : ℕ). (take at o ++ xs) ++ drop k o) (sym (u .next))
-
-  front-long : length (take at o ++ xs) ≡ r
-  front-long = length-append (take at o) xs ∙ ap (λ (k : ℕ). k + length xs) (length-take-le at o (omega (arith, u .next, u .room))) ∙ sym (u .next)
-
-  put-take : take r p ≡ take at o ++ xs
-  put-take = ap (take r) front ∙ take-at (take at o ++ xs) (drop r o) r front-long
-
-  put-drop : drop r p ≡ drop r o
-  put-drop = ap (drop r) front ∙ drop-at (take at o ++ xs) (drop r o) r front-long
-
-  put-length : length p ≡ length o
-  put-length = omega (arith, ap length front, length-append (take at o ++ xs) (drop r o), front-long, length-drop r o, u .room)
-
--- past a later place, what was kept is kept
-kept-on : (o p : List ℕ) (a b : ℕ) → drop a o ≡ drop a p → a ≤ b → drop b o ≡ drop b p
-kept-on o p a b e h =
-    let k : a + (b - a) ≡ b = omega arith in
-    ap (λ (n : ℕ). drop n o) (sym k) ∙ sym (drop-drop (b - a) a o) ∙ ap (drop (b - a)) e ∙ drop-drop (b - a) a p ∙ ap (λ (n : ℕ). drop n p) k
 
 -- A TURN
 fitting-step : (room : ℕ) (t : Token) (ts : List Token) → 33 ≤ room → fitting room (t ∷ ts) ≡ t ∷ fitting (room - length (line (t .kind) (t .len))) ts

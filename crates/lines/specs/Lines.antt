@@ -3,21 +3,16 @@ use Prim.Native.Nat.{ℕ, _+_, _-_}
 use mathlib.Core.Bool.{false}
 use mathlib.Core.List.{List, [], _∷_, _++_}
 use lib.Dec.{ltb}
-use lib.ListN.{length, drop}
+use lib.ListN.{length}
 use Rattle.basics.specs.Choice.{pick}
-use Rattle.text.specs.Chars.{chars}
 use Rattle.token.specs.declared.Token.{Token}
-use Rattle.token.specs.Lists.{Lists, lent}
-use Rattle.token.specs.Tokens.{tokens, placed}
+use Rattle.token.specs.Lists.{none}
+use Rattle.lexer.specs.Scans.{recordsFrom}
 use Rattle.names.specs.Line.{line}
-
--- empty lists
-abbrev pub none : Lists
-none = lent [] [] []
 
 -- the tokens of a text from a position on
 abbrev pub tokensFrom : (s : List ℕ) (at : ℕ) → List Token
-tokensFrom s at = placed at (tokens none false (chars (drop at s)))
+tokensFrom s at = recordsFrom none s at false
 
 -- the lines of tokens, one after the other
 abbrev pub linesOf : List Token → List ℕ

@@ -4,7 +4,7 @@ ghost use mathlib.Core.Path.{_≡_};
 ghost use mathlib.Core.Bool.{false};
 ghost use lib.ListN.{length};
 ghost use Rattle.lexer.specs.Scans.{scanAt};
-ghost use Rattle.lines.specs.Lines.{none};
+ghost use Rattle.token.specs.Lists.{none};
 ghost use Rattle.lines.specs.Filled.{Filled};
 use lexer::Scan;
 

@@ -1,17 +1,16 @@
 -- The fewest digits that hold a number are its decimal.
 use Prim.Native.Nat.{ℕ, zero, suc, _+_, _-_, _*_, _/_, _%_, _^_, _≤_, _<_}
-use mathlib.Core.Path.{_≡_, refl, sym, ap, subst, _∙_}
-use mathlib.Core.List.{List, [], _∷_, _++_}
+use mathlib.Core.Path.{_≡_, refl, sym, subst, _∙_}
+use mathlib.Core.List.{List, [], _∷_}
 use mathlib.Core.Logic.{⊎-elim}
 use borrow.Author.Tests.{lt-ltb, le-ltb}
-use lib.Dec.{ltb}
 use lib.ListN.{length, take}
 use native.Mathlib.Nat.{pow-suc, pow-le-pow-right}
 use native.Mathlib.Omega.{arith}
 use Rattle.basics.proofs.Choices.{below-or-not}
 use Rattle.io.specs.Digits.{digits, glyph, Fewest}
 use Rattle.names.specs.Line.{lastDigits, decimal}
-use Rattle.names.specs.Put.{laid, Put, PutFew}
+use Rattle.puts.specs.Put.{Put, PutFew}
 
 -- a digit's code
 glyph-digit : (d : ℕ) → d < 10 → glyph d ≡ 48 + d

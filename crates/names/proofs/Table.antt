@@ -13,7 +13,7 @@ use Rattle.token.specs.declared.TokenKind.{TokenKind}
 use Rattle.token.specs.declared.TokenKind.the-variants.{LineComment, BlockComment, Whitespace, Frontmatter, Ident, InvalidIdent, RawIdent, ForcedKeywordIdent, UnknownPrefix, UnknownPrefixLifetime, RawLifetime, GuardedStrPrefix, Literal, Lifetime, Semi, Comma, Dot, OpenParen, CloseParen, OpenBrace, CloseBrace, OpenBracket, CloseBracket, At, Pound, Tilde, Question, Colon, Dollar, Eq, Bang, Lt, Gt, Minus, And, Or, Plus, Star, Slash, Caret, Percent, Unknown, Eof}
 use Rattle.token.specs.Kinds.{kindNumber, kindName}
 use Rattle.codes.specs.Coded.{Coded}
-use Rattle.names.specs.Put.{Put, PutFew}
+use Rattle.puts.specs.Put.{Put, PutFew}
 
 -- the tables of the code
 abbrev names : List ℕ

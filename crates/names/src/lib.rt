@@ -1,31 +1,10 @@
 // The line that is printed for a token, put into a lent buffer: the name of its kind, a tab, its length in decimal, a newline.
 ghost use Prim.Native.Nat.{_+_, _≤_};
-ghost use mathlib.Core.List.{[], _∷_};
 ghost use lib.ListN.{length};
 ghost use Rattle.token.specs.Kinds.{kindName};
 ghost use Rattle.names.specs.Line.{decimal, line};
-ghost use Rattle.names.specs.Put.{Put, PutFew};
+ghost use Rattle.puts.specs.Put.{PutFew};
 use token::TokenKind;
-
-fn put_bytes(out: &mut [u8], at: usize, s: &[u8]) -> usize
-    requires { ⌜ at + length (now s) ≤ length (now out) ⌝ }
-    ensures { λ r. ⌜ Put (now (s .entry)) (now (out .entry)) at (now (out .exit)) r ⌝ }
-{
-    let mut i = 0;
-    while i < s.len() {
-        out[at + i] = s[i];
-        i += 1;
-    }
-    at + i
-}
-
-fn put_byte(out: &mut [u8], at: usize, b: u8) -> usize
-    requires { ⌜ at + 1 ≤ length (now out) ⌝ }
-    ensures { λ r. ⌜ Put (b ∷ []) (now (out .entry)) at (now (out .exit)) r ⌝ }
-{
-    out[at] = b;
-    at + 1
-}
 
 // A number in decimal. A u32 has at most ten digits.
 fn put_decimal(out: &mut [u8], at: usize, n: u32) -> usize
@@ -34,7 +13,7 @@ fn put_decimal(out: &mut [u8], at: usize, n: u32) -> usize
 {
     let mut text = [0u8; 20];
     let k = io::decimal(n as u64, &mut text);
-    put_bytes(out, at, &text[..k])
+    puts::put_bytes(out, at, &text[..k])
 }
 
 // The names of the kinds, one after the other in the order of 000, and where each starts; the last number is the end.
@@ -98,7 +77,7 @@ fn put_name(out: &mut [u8], at: usize, kind: TokenKind) -> usize
     let starts = STARTS;
     let from = starts[n];
     let to = starts[n + 1];
-    put_bytes(out, at, &names[from..to])
+    puts::put_bytes(out, at, &names[from..to])
 }
 
 // The line of a token, and the place past it. A line has at most 33 bytes.
@@ -107,7 +86,7 @@ pub fn put_line(out: &mut [u8], at: usize, kind: TokenKind, len: u32) -> usize
     ensures { λ r. ⌜ PutFew 33 (line kind len) (now (out .entry)) at (now (out .exit)) r ⌝ }
 {
     let tab = put_name(out, at, kind);
-    let digits = put_byte(out, tab, 9);
+    let digits = puts::put_byte(out, tab, 9);
     let end = put_decimal(out, digits, len);
-    put_byte(out, end, 10)
+    puts::put_byte(out, end, 10)
 }

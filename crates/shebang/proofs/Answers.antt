@@ -1,11 +1,11 @@
 -- Document 01, "Nothing left open": two answers that the promise allows for the same text are the same answer.
 use Prim.Native.Nat.{ℕ}
 use mathlib.Core.Path.{_≡_, refl, sym, ap, _∙_}
-use mathlib.Core.List.{[]}
 use native.Mathlib.Omega.{arith}
 use Rattle.shebang.specs.declared.Shebang.{Shebang}
 use Rattle.shebang.specs.declared.Shebang.the-variants.{Ends, Absent}
-use Rattle.shebang.specs.Places.{none, placeOf}
+use Rattle.token.specs.Lists.{none}
+use Rattle.shebang.specs.Places.{placeOf}
 use Rattle.shebang.proofs.shebang_end.Reads as shebang-end
 
 one-place : (r q : Shebang) → placeOf r ≡ placeOf q → r ≡ q

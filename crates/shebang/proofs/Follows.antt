@@ -25,7 +25,8 @@ use Rattle.cursor.specs.Ran.{kindFrom}
 use Rattle.cursor.proofs.Moves.{char-at, end-at}
 use Rattle.prefixed.specs.Begins.{Begun}
 use Rattle.advance.specs.Arms.{decided}
-use Rattle.shebang.specs.Places.{none, isBracket, bracketed}
+use Rattle.token.specs.Lists.{none}
+use Rattle.shebang.specs.Places.{isBracket, bracketed}
 use Rattle.shebang.proofs.First.{bracket-none, bracket-step}
 
 -- empty lists are good

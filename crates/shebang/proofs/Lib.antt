@@ -1,4 +1,4 @@
-mod Trivial
+mod Bracket
 mod Lines
 mod First
 mod Follows

@@ -9,7 +9,7 @@ use borrow.Author.Tests.{ne-eqb}
 use Rattle.basics.specs.Choice.{pick}
 use Rattle.text.specs.Chars.{chars, width}
 use Rattle.eaters.specs.Find.{at, nowhere}
-use Rattle.token.specs.Lists.{Lists}
+use Rattle.token.specs.Lists.{Lists, none}
 use Rattle.token.specs.Shebang.{lineBytes, shebang}
 use Rattle.cursor.specs.declared.Cursor.{Cursor}
 use Rattle.cursor.specs.Cursors.{rest, rest-is}
@@ -17,7 +17,7 @@ use Rattle.cursor.specs.Moved.{Moved}
 use Rattle.cursor.proofs.Moves.{bumped}
 use Rattle.cursor.proofs.Bytes.{bump-bytes}
 use Rattle.shebang.specs.declared.Shebang.the-variants.{Ends, Absent}
-use Rattle.shebang.specs.Places.{none, bracketed, Stripped}
+use Rattle.shebang.specs.Places.{bracketed, Stripped}
 use Rattle.shebang.proofs.AnyLists.{any-bracket}
 
 -- the clauses of the rule

@@ -2,22 +2,18 @@
 use Prim.Native.Nat.{ℕ}
 use mathlib.Core.Path.{_≡_}
 use mathlib.Core.Bool.{Bool, false}
-use mathlib.Core.List.{List, []}
+use mathlib.Core.List.{List}
 use lib.Dec.{eqb}
 use Rattle.eaters.specs.Find.{Place, at, nowhere}
 use Rattle.text.specs.Chars.{chars}
 use Rattle.token.specs.declared.TokenKind.{TokenKind}
 use Rattle.token.specs.declared.TokenKind.the-variants as kind
-use Rattle.token.specs.Lists.{Lists, lent}
+use Rattle.token.specs.Lists.{Lists}
 use Rattle.token.specs.Kinds.{kindNumber}
 use Rattle.token.specs.Tokens.{tokens}
 use Rattle.token.specs.Shebang.{meaningful, shebang}
 use Rattle.shebang.specs.declared.Shebang.{Shebang}
 use Rattle.shebang.specs.declared.Shebang.the-variants.{Ends, Absent}
-
--- empty lists
-abbrev pub none : Lists
-none = lent [] [] []
 
 -- a kind is the opening bracket
 abbrev pub isBracket : TokenKind → Bool

@@ -5,48 +5,21 @@ ghost use mathlib.Core.Path.{_≡_};
 ghost use Prim.Native.Nat.{_+_};
 ghost use Rattle.token.specs.Advance.{plain};
 ghost use Rattle.token.specs.Shebang.{lineBytes};
-ghost use Rattle.token.specs.Trivia.{isPlain, isTrivia};
 ghost use Rattle.cursor.specs.Cursors.{rest};
 ghost use Rattle.prefixed.specs.Begins.{Begun};
-ghost use Rattle.shebang.specs.Places.{none, isBracket, bracketed, Stripped};
+ghost use Rattle.token.specs.Lists.{none};
+ghost use Rattle.shebang.specs.Places.{isBracket, bracketed, Stripped};
 use cursor::Cursor;
 use cursor::Kinded;
 use cursor::Scanned;
 use cursor::Step;
 use text::CodePoint;
-use token::DocStyle;
 use token::TokenKind;
 
 // Where a shebang ends, in bytes, if there is one.
 pub enum Shebang {
     Ends(usize),
     Absent,
-}
-
-// Whether a comment is no doc comment.
-fn is_plain(style: DocStyle) -> bool
-    ensures { λ r. ⌜ r ≡ isPlain style ⌝ }
-{
-    match style {
-        DocStyle::Outer => false,
-        DocStyle::Inner => false,
-        DocStyle::Plain => true,
-    }
-}
-
-// Whether a token is trivia: whitespace, or a comment that is no doc comment.
-fn is_trivia(kind: TokenKind) -> bool
-    ensures { λ r. ⌜ r ≡ isTrivia kind ⌝ }
-{
-    match kind {
-        TokenKind::LineComment { doc_style } => is_plain(doc_style),
-        TokenKind::BlockComment {
-            doc_style,
-            terminated: _,
-        } => is_plain(doc_style),
-        TokenKind::Whitespace => true,
-        _ => false,
-    }
 }
 
 // Whether a token is an opening bracket.
@@ -81,7 +54,7 @@ fn bracket_follows(text: &[u8], from: Cursor) -> bool
         let Kinded::Plain(kind) = kinded else {
             return false;
         };
-        if !is_trivia(kind) {
+        if !trivia::is_trivia(kind) {
             return is_bracket(kind);
         }
         cur = scanned.next;

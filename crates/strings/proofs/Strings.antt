@@ -1,24 +1,23 @@
 -- The guarded string in 000's numbers, in the facts of the code: what is found is the book's, and each number fits.
 use Prim.Native.Nat.{ℕ, zero, suc, _+_, _-_, _≤_, zero-le}
 use mathlib.Core.Path.{_≡_, refl, sym, ap, subst, _∙_}
-use mathlib.Core.Bool.{Bool, false}
+use mathlib.Core.Bool.{Bool}
 use mathlib.Core.List.{List, [], _∷_}
 use lib.ListN.{length, getD, take, drop, length-drop}
 use native.Mathlib.Omega.{arith}
 use Rattle.basics.proofs.Choices.{by-pick}
 use Rattle.text.specs.Chars.{size, chars}
 use Rattle.text.proofs.Texts.{size-chars, few-chars}
-use Rattle.classes.specs.Identifiers.{letter, idStart}
 use Rattle.eaters.specs.Eat.{Got, give, while, _>>=_, texted}
 use Rattle.eaters.specs.Look.{ifAt}
 use Rattle.eaters.proofs.Fits.{Fits, fits-give, fits-while, fits-whileMost, fits-bind, fits-then, fits-choose, fits-ifEat, fits-scan}
 use Rattle.token.specs.declared.Guarded.the-variants.{Found, NotFound}
 use Rattle.token.specs.Names.{is, 'double', '#'}
-use Rattle.token.specs.Lists.{Lists, lent, starting, going}
-use Rattle.token.specs.Literals.{identifier}
+use Rattle.token.specs.Lists.{Lists, lent}
 use Rattle.token.specs.Quotes.{doubleTurn}
 use Rattle.token.specs.RawCheck.{hashes}
 use Rattle.token.specs.Guarded.{Guard, string, none, guardedRest, guard, found}
+use Rattle.token.proofs.Takes.{fits-identifier}
 use Rattle.cursor.specs.declared.Cursor.{Cursor}
 use Rattle.cursor.specs.Cursors.{rest, rest-is}
 use Rattle.cursor.specs.Ran.{Ran}
@@ -31,13 +30,6 @@ use Rattle.strings.specs.Answers.{guardedAnswer}
 use Rattle.strings.proofs.Bounds.{hashes-few}
 
 -- no more is taken than is there
-starts-nothing : (L : Lists) → starting L 0 ≡ false
-unfolding idStart letter
-starts-nothing L = refl
-
-fits-identifier : (L : Lists) → Fits 0 (identifier L)
-fits-identifier L = fits-ifEat (starting L) (starts-nothing L) (fits-then (fits-while (going L)) (fits-give tt)) (fits-give tt)
-
 fits-rest : (L : Lists) (n : ℕ) → Fits 0 (guardedRest L n)
 fits-rest L n =
     fits-bind (fits-scan doubleTurn 0 1) (λ t. fits-then (fits-choose t (fits-then (fits-whileMost n _) (fits-identifier L)) (fits-give tt)) (fits-give t))

@@ -66,12 +66,12 @@ pub scalars : (s : List ℕ) → Scalars (chars s)
 scalars = by-chars (λ (s : List ℕ). Scalars (chars s)) (λ s e. rw e nil) (λ s c w d f e ih. rw e (cons (f .scalar) ih))
 
 -- they encode to its front
-front : (s : List ℕ) → encode (chars s) ++ drop (size (chars s)) s ≡ s
+pub front : (s : List ℕ) → encode (chars s) ++ drop (size (chars s)) s ≡ s
 unfolding encode
 front = by-chars (λ (s : List ℕ). encode (chars s) ++ drop (size (chars s)) s ≡ s) (λ s e. rw e)
     (λ s c w d f e ih. rw (e, append-assoc, f .wide, ← drop-drop (size (chars (drop w s))) w s, ih) (f .coded))
 
-length-encode : (cs : List ℕ) → length (encode cs) ≡ size cs
+pub length-encode : (cs : List ℕ) → length (encode cs) ≡ size cs
 unfolding encode
 length-encode [] = refl
 length-encode (c ∷ cs) = rw (length-append (encodeOne c) (encode cs), length-encodeOne c, length-encode cs)

@@ -14,28 +14,26 @@ use Rattle.eaters.specs.Eat.{give, eat, eatAny, while, whileMost, _>>=_, texted
 use Rattle.eaters.specs.Look.{ifAt, ifTwo, ifBegins}
 use Rattle.eaters.specs.Scan.{scan, firstWith}
 use Rattle.eaters.specs.Find.{at, nowhere, find}
-use Rattle.token.specs.declared.DocStyle.the-variants.{Outer, Plain}
+use Rattle.token.specs.declared.DocStyle.the-variants.{Outer, Inner, Plain}
 use Rattle.token.specs.declared.HashCount.the-variants.{NoCount}
 use Rattle.token.specs.declared.Base.the-variants.{Binary, Decimal, Hexadecimal}
 use Rattle.token.specs.declared.LiteralKind.the-variants as literal
 use Rattle.token.specs.declared.LiteralKind.the-variants.{Int, Float, Char, Str}
 use Rattle.token.specs.declared.TokenKind.{TokenKind}
-use Rattle.token.specs.declared.TokenKind.the-variants.{LineComment, BlockComment, Frontmatter, Literal, Unknown, Eof}
+use Rattle.token.specs.declared.TokenKind.the-variants.{LineComment, BlockComment, Whitespace, Frontmatter, Literal, Unknown, Eof}
 use Rattle.token.specs.declared.Token.{Token}
 use Rattle.token.specs.declared.Offset.the-variants.{At}
 use Rattle.token.specs.declared.RawStrError.the-variants.{NoTerminator}
 use Rattle.token.specs.declared.RawStr.the-variants.{Bad}
 use Rattle.token.specs.declared.Guarded.the-variants.{Found}
-use Rattle.token.specs.Lists.{Lists}
+use Rattle.token.specs.Lists.{none}
 use Rattle.token.specs.Frontmatter.{lastSearch, body}
 use Rattle.token.specs.Advance.{advance}
 use Rattle.token.specs.Tokens.{tokensAfter, records}
+use Rattle.token.specs.Trivia.{isTrivia}
 use Rattle.token.specs.Guarded.{guardedString}
 use Rattle.token.specs.RawCheck.{guess, rawCheck}
 use Rattle.token.specs.Shebang.{lineBytes, shebang}
-
-abbrev none : Lists
-none = record { starts = []; continues = []; emoji = [] }
 
 -- a text, whether frontmatter is on, and the kind and length of its first token
 pub record Line : Type 0 where
@@ -114,3 +112,9 @@ guarded-row = refl
 pub shebang-rows : (shebang none (35 ∷ 33 ∷ 91 ∷ 97 ∷ 93 ∷ []) ≡ nowhere) × ((shebang none (35 ∷ 33 ∷ 97 ∷ 13 ∷ 10 ∷ []) ≡ at 3) × (shebang none (35 ∷ 33 ∷ 97 ∷ 13 ∷ []) ≡ at 4))
 unfolding byte two three four lead decoded charsAfter width inPairs isWhitespace isHorizontalWhitespace letter idStart idContinue emojiChar give eat eatAny while whileMost _>>=_ texted choose ifAt ifTwo ifBegins scan firstWith find lastSearch body advance tokensAfter lineBytes shebang
 shebang-rows = (refl, (refl, refl))
+
+-- trivia (document 01, "The key"): whitespace, and comments whose doc style is none; a doc comment of either style is none
+pub trivia-rows :
+    (isTrivia Whitespace ≡ true) × (isTrivia (LineComment Plain) ≡ true) × (isTrivia (BlockComment Plain true) ≡ true) × (isTrivia (LineComment Outer) ≡ false)
+    × (isTrivia (LineComment Inner) ≡ false) × (isTrivia (BlockComment Outer true) ≡ false) × (isTrivia (BlockComment Inner true) ≡ false)
+trivia-rows = (refl, refl, refl, refl, refl, refl, refl)

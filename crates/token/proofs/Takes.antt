@@ -43,7 +43,7 @@ starts-nothing L = refl
 fits-nothing : Fits 0 nothing
 fits-nothing = fits-give tt
 
-fits-identifier : (L : Lists) → Fits 0 (identifier L)
+pub fits-identifier : (L : Lists) → Fits 0 (identifier L)
 fits-identifier L = fits-ifEat (starting L) (starts-nothing L) (fits-then (fits-while (going L)) fits-nothing) fits-nothing
 
 fits-literal : (L : Lists) (before : ℕ) {n : ℕ} {body : Eater Body} → Fits n body → Fits n (literal L before body)

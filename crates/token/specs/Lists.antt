@@ -1,6 +1,6 @@
 -- The three lent lists, and the classes of a character with them.
 use Prim.Native.Nat.{ℕ}
-use mathlib.Core.List.{List}
+use mathlib.Core.List.{List, []}
 use mathlib.Core.Bool.{Bool}
 use Rattle.classes.specs.Identifiers.{idStart, idContinue}
 use Rattle.classes.specs.Emoji.{emojiChar}
@@ -12,6 +12,10 @@ pub record Lists : Type 0 where
 
 abbrev pub lent : (starts continues emoji : List ℕ) → Lists
 lent a b c = record { starts = a; continues = b; emoji = c }
+
+-- empty lists
+abbrev pub none : Lists
+none = lent [] [] []
 
 -- c starts an identifier
 abbrev pub starting : Lists → ℕ → Bool

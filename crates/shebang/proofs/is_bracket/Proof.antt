@@ -1,5 +1,5 @@
--- `shebang::is_bracket` meets its contract. The bracket, or any other kind (Trivial).
-use Rattle.shebang.proofs.Trivial.{bracket-this, bracket-other}
+-- `shebang::is_bracket` meets its contract. The bracket, or any other kind (Bracket).
+use Rattle.shebang.proofs.Bracket.{bracket-this, bracket-other}
 use borrow.Author.Needs.{needs}
 use Rattle.shebang.proofs.is_bracket.Statement.{statement}
 use Rattle.shebang.proofs.is_bracket.Tie as tie

@@ -1,8 +1,8 @@
--- `shebang::is_trivia` meets its contract. A comment by its style, whitespace, or any other kind (Trivial).
-use Rattle.shebang.proofs.Trivial.{trivia-line, trivia-block, trivia-white, trivia-other}
+-- `trivia::is_trivia` meets its contract. A comment by its style, whitespace, or any other kind (Sorts).
+use Rattle.trivia.proofs.Sorts.{trivia-line, trivia-block, trivia-white, trivia-other}
 use borrow.Author.Needs.{needs}
-use Rattle.shebang.proofs.is_trivia.Statement.{statement}
-use Rattle.shebang.proofs.is_trivia.Tie as tie
+use Rattle.trivia.proofs.is_trivia.Statement.{statement}
+use Rattle.trivia.proofs.is_trivia.Tie as tie
 
 enum-known-kind : tie.Need-enum-known-kind
 enum-known-kind c = search needs

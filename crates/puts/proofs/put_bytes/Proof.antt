@@ -1,10 +1,10 @@
--- `names::put_bytes` meets its contract. The loop copies byte by byte (Puts).
+-- `puts::put_bytes` meets its contract. The loop copies byte by byte (Puts).
 use Prim.Native.Nat.{_-_}
 use lib.ListN.{length}
-use Rattle.names.proofs.Puts.{Copying, copy-starts, copied, pasted}
+use Rattle.puts.proofs.Puts.{Copying, copy-starts, copied, pasted}
 use borrow.Author.Needs.{needs}
-use Rattle.names.proofs.put_bytes.Statement.{statement}
-use Rattle.names.proofs.put_bytes.Tie as tie
+use Rattle.puts.proofs.put_bytes.Statement.{statement}
+use Rattle.puts.proofs.put_bytes.Tie as tie
 
 abbrev Inv-loop : tie.InvT-loop
 Inv-loop out₀ at s i₀ out i = Copying s out₀ at out i

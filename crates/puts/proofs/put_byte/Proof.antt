@@ -1,8 +1,8 @@
--- `names::put_byte` meets its contract. One store is one byte put (Puts).
-use Rattle.names.proofs.Puts.{one-put}
+-- `puts::put_byte` meets its contract. One store is one byte put (Puts).
+use Rattle.puts.proofs.Puts.{one-put}
 use borrow.Author.Needs.{needs}
-use Rattle.names.proofs.put_byte.Statement.{statement}
-use Rattle.names.proofs.put_byte.Tie as tie
+use Rattle.puts.proofs.put_byte.Statement.{statement}
+use Rattle.puts.proofs.put_byte.Tie as tie
 
 slice-write-out : tie.Need-slice-write-out
 slice-write-out c = search needs

@@ -1,0 +1,14 @@
+pub mod Short
+mod Stills
+mod Sounds
+mod Scans
+mod Rules
+pub mod Advance
+pub mod Chain
+mod Spelling
+mod Keyed
+mod Written
+pub mod Canon
+pub mod Mark
+pub mod Needed
+pub mod Keys

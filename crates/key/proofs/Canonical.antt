@@ -1,0 +1,120 @@
+-- THE KEY IS CANONICAL, said of the call: what it wrote for two texts, what it writes for a key, and how long a key is. `take n after` are the bytes
+-- that a call wrote which answered `Keyed n`.
+use Prim.Native.Nat.{ℕ, _≤_}
+use mathlib.Core.Path.{_≡_, refl, sym, ap, subst, _∙_}
+use mathlib.Core.Bool.{Bool, true, false, true≢false}
+use mathlib.Core.Logic.{_↔_}
+use mathlib.Core.List.{List}
+use lib.Dec.{leb}
+use lib.ListN.{length, take, drop}
+use lib.Seq.{take-at}
+use borrow.Author.Tests.{leb-true, le-leb, le-ltb, eq-eqb}
+use native.Mathlib.Omega.{arith}
+use Rattle.basics.specs.Choice.{pick}
+use Rattle.eaters.specs.Find.{Place, at, nowhere}
+use Rattle.refusal.specs.declared.Bad.the-variants as bad
+use Rattle.refusal.specs.declared.Verdict.{Verdict}
+use Rattle.refusal.specs.declared.Verdict.the-variants as verdict
+use Rattle.refusal.specs.Order.{listsInOrder}
+use Rattle.refusal.proofs.Orders.{first-1, first-2}
+use Rattle.text.specs.Chars.{chars, size, WellFormed}
+use Rattle.text.specs.Verdicts.{tooLong, utf8Verdict}
+use Rattle.lists.specs.Rules.{listVerdict}
+use Rattle.token.specs.Lists.{Lists}
+use Rattle.lexer.specs.Answers.{tokenVerdict}
+use Rattle.lexer.proofs.Checks.{step-ready}
+use Rattle.canon.specs.Keyable.{brokenAt, Keyable}
+use Rattle.canon.specs.Meaning.{meaning}
+use Rattle.canon.specs.Key.{keyOf}
+use Rattle.canon.specs.Fair.{Fair}
+use Rattle.canon.proofs.Short.{key-short}
+use Rattle.canon.proofs.Canon.{key-well, key-again, again-keyable, canonical}
+use Rattle.key.specs.declared.KeyAnswer.{KeyAnswer}
+use Rattle.key.specs.declared.KeyAnswer.the-variants.{Keyed, Broken, Room, Refused}
+use Rattle.key.specs.Answers.{unbroken, checked, keyAnswer, Keying}
+
+-- what an answer of success tells of the text, the lists and the room
+record Done (limit : ℕ) (s : List ℕ) (L : Lists) (room n : ℕ) : Type 0 where
+  fine : tokenVerdict limit s L ≡ verdict.Fine
+  keyable : Keyable L s
+  long : n ≡ length (keyOf L s)
+  fits : n ≤ room
+
+abbrev isKeyed : KeyAnswer → Bool
+isKeyed (Keyed n) = true
+isKeyed (Broken start) = false
+isKeyed (Room n) = false
+isKeyed (Refused bad) = false
+
+abbrev bytesIn : KeyAnswer → ℕ
+bytesIn (Keyed n) = n
+bytesIn (Broken start) = 0
+bytesIn (Room n) = 0
+bytesIn (Refused bad) = 0
+
+module _ {limit : ℕ} {s : List ℕ} {L : Lists} {room n : ℕ} where
+  by-cases : (v : Verdict) (p : Place) (t : Bool) → tokenVerdict limit s L ≡ v → brokenAt L s ≡ p → leb (length (keyOf L s)) room ≡ t
+      → Keyed n ≡ checked v (unbroken p (pick t (Keyed (length (keyOf L s))) (Room (length (keyOf L s))))) → Done limit s L room n
+  by-cases verdict.Fine nowhere true f p q e =
+      let k : n ≡ length (keyOf L s) = ap bytesIn e in
+      record { fine = f; keyable = p; long = k; fits = omega (arith, k, leb-true (length (keyOf L s)) room q) }
+  by-cases verdict.Fine nowhere false f p q e = absurd (true≢false (ap isKeyed e))
+  by-cases verdict.Fine (at start) t f p q e = absurd (true≢false (ap isKeyed e))
+  by-cases (verdict.Refused b) p t f g q e = absurd (true≢false (ap isKeyed e))
+
+  done : Keyed n ≡ keyAnswer limit s L room → Done limit s L room n
+  done = by-cases (tokenVerdict limit s L) (brokenAt L s) (leb (length (keyOf L s)) room) refl refl refl
+
+fair-of : (limit : ℕ) (s : List ℕ) (L : Lists) → tokenVerdict limit s L ≡ verdict.Fine → Fair L
+fair-of limit s L e = step-ready limit s (L .starts) (L .continues) (L .emoji) (sym e) refl .1
+
+-- ONE CALL that answered `Keyed n`
+module _ {limit : ℕ} {s : List ℕ} {L : Lists} {before after : List ℕ} {n : ℕ} (k : Keying limit s L before after (Keyed n)) where
+  told : Done limit s L (length before) n
+  told = done (k .answer)
+
+  -- it wrote the key
+  pub wrote-key : take n after ≡ keyOf L s
+  wrote-key = ap (take n) (k .holds) ∙ take-at (keyOf L s) (drop n before) n (sym (told .long))
+
+  -- NO KEY IS LONGER than its text
+  pub wrote-short : n ≤ length s
+  wrote-short = omega (arith, told .long, key-short L s)
+
+  -- A KEY IS WELL-FORMED UTF-8
+  pub wrote-well : WellFormed (take n after)
+  wrote-well = subst (λ (l : List ℕ). WellFormed l) (sym wrote-key) (key-well L s)
+
+-- TWO CALLS with the same lists: they wrote the same bytes exactly when the two texts mean the same, that is, when their meaningful tokens agree in
+-- order, kind, suffix start and bytes, and trivia stands in the same gaps
+pub same-keys : {limit : ℕ} {s t : List ℕ} {L : Lists} {before after before′ after′ : List ℕ} {n m : ℕ} → Keying limit s L before after (Keyed n) → Keying limit t L before′ after′ (Keyed m)
+    → (take n after ≡ take m after′) ↔ (meaning L s ≡ meaning L t)
+same-keys {limit} {s} {t} {L} j k =
+    let c = canonical L (fair-of limit s L (told j .fine)) s t (told j .keyable) (told k .keyable) in
+    ((λ e. c .0 (sym (wrote-key j) ∙ e ∙ wrote-key k)), (λ e. wrote-key j ∙ c .1 e ∙ sym (wrote-key k)))
+
+-- a text that the checks let through, no longer and well-formed: they let it through as well
+fine-again : (limit : ℕ) (s t : List ℕ) (L : Lists) → tokenVerdict limit s L ≡ verdict.Fine → length t ≤ length s → WellFormed t → tokenVerdict limit t L ≡ verdict.Fine
+unfolding tokenVerdict tooLong utf8Verdict
+fine-again limit s t L e l w =
+    let f : length s ≤ 4294967295 = step-ready limit s (L .starts) (L .continues) (L .emoji) (sym e) refl .0 in
+    let g : listsInOrder (listVerdict limit 0 (L .starts)) (listVerdict limit 1 (L .continues)) (listVerdict limit 2 (L .emoji)) ≡ verdict.Fine = first-1 _ (utf8Verdict s) (first-2 (tooLong s) _ e) in
+    rw (le-ltb 4294967295 (length t) (omega arith), g, eq-eqb (size (chars t)) (length t) w)
+
+-- A KEY KEYED AGAIN, with room for it, is accepted and comes out as it is
+module _ {limit : ℕ} {s : List ℕ} {L : Lists} {before after before′ after′ : List ℕ} {n : ℕ} {r : KeyAnswer} (j : Keying limit s L before after (Keyed n)) (k : Keying limit (take n after) L before′ after′ r) (h : n ≤ length before′) where
+  same-key : keyOf L (take n after) ≡ take n after
+  same-key = ap (keyOf L) (wrote-key j) ∙ key-again L (fair-of limit s L (told j .fine)) s (told j .keyable) ∙ sym (wrote-key j)
+
+  as-long : length (take n after) ≡ n
+  as-long = ap length (wrote-key j) ∙ sym (told j .long)
+
+  pub again-keyed : r ≡ Keyed n
+  again-keyed =
+      let f : tokenVerdict limit (take n after) L ≡ verdict.Fine = fine-again limit s (take n after) L (told j .fine) (omega (arith, as-long, wrote-short j)) (wrote-well j) in
+      let b : brokenAt L (take n after) ≡ nowhere = ap (brokenAt L) (wrote-key j) ∙ again-keyable L (fair-of limit s L (told j .fine)) s (told j .keyable) in
+      let l : length (keyOf L (take n after)) ≡ n = ap length same-key ∙ as-long in
+      k .answer ∙ rw (f, b, l, le-leb n (length before′) h)
+
+  pub again-same : take n after′ ≡ take n after
+  again-same = wrote-key (subst (λ (x : KeyAnswer). Keying limit (take n after) L before′ after′ x) again-keyed k) ∙ same-key

@@ -1,0 +1,7 @@
+mod Breaks
+mod Turns
+mod Measures
+mod Layings
+mod Calls
+pub mod Answers
+pub mod Canonical

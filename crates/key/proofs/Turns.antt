@@ -1,0 +1,129 @@
+-- What the key has from a position on, token by token.
+use Prim.Native.Nat.{ℕ, _+_, _-_, _≤_, _<_}
+use mathlib.Core.Path.{_≡_, refl, sym, ap, subst, _∙_}
+use mathlib.Core.Bool.{Bool, true, false}
+use mathlib.Core.List.{List, [], _∷_, _++_}
+use lib.ListN.{length, take, drop, length-append, length-drop}
+use lib.Seq.{length-take-le}
+use native.Mathlib.Omega.{arith}
+use Rattle.basics.specs.Choice.{pick}
+use Rattle.eaters.specs.Find as find
+use Rattle.text.specs.Chars.{chars, size, WellFormed}
+use Rattle.text.specs.Position.{onBoundary}
+use Rattle.text.proofs.Positions.{boundary-parts}
+use Rattle.text.proofs.Texts.{size-chars}
+use Rattle.token.specs.declared.Token.{Token}
+use Rattle.token.specs.declared.TokenKind.{TokenKind}
+use Rattle.token.specs.Lists.{Lists}
+use Rattle.token.specs.Trivia.{isTrivia}
+use Rattle.token.proofs.Cover.{off-stays, size-append}
+use Rattle.lexer.specs.declared.Scan.{Scan}
+use Rattle.lexer.specs.Scans.{scanAt, recordsFrom}
+use Rattle.lexer.proofs.Records.{step-records, next-boundary}
+use Rattle.lexer.proofs.Walks.{char-there, none-past, records-past, fewer}
+use Rattle.canon.specs.Broken.{isBroken}
+use Rattle.canon.specs.Keyable.{firstBroken}
+use Rattle.canon.specs.Meaning as meaning
+use Rattle.canon.specs.Meaning.{Item, gap, meant, gapBefore, itemsOf}
+use Rattle.canon.specs.Key.{written}
+use Rattle.key.specs.Pieces.{piece, pieceBytes}
+
+-- items after a gap that is written already
+abbrev pub left : (gap : Bool) → List Item → List Item
+left false is = is
+left true [] = []
+left true (gap ∷ is) = is
+left true (meant k b ∷ is) = meant k b ∷ is
+
+-- ONE TOKEN: what it adds, and then what is left
+one-left : (t g : Bool) (k : TokenKind) (b : List ℕ) (m : List Item) → written (left g (pick t (gapBefore m) (meant k b ∷ m))) ≡ piece t g b ++ written (left t m)
+unfolding piece
+one-left true false k b [] = refl
+one-left true false k b (gap ∷ m) = refl
+one-left true false k b (meant l c ∷ m) = refl
+one-left true true k b [] = refl
+one-left true true k b (gap ∷ m) = refl
+one-left true true k b (meant l c ∷ m) = refl
+one-left false false k b m = refl
+one-left false true k b m = refl
+
+left-none : (g : Bool) → left g [] ≡ []
+left-none true = refl
+left-none false = refl
+
+-- as many bytes as it has
+pub piece-long : (t g : Bool) (b : List ℕ) → length (piece t g b) ≡ pieceBytes t g (length b)
+unfolding piece pieceBytes
+piece-long true true b = refl
+piece-long true false b = refl
+piece-long false g b = refl
+
+-- THE REST OF THE KEY: what it has from a position on, where the token before is trivia or not
+abbrev pub keyFrom : Lists → (s : List ℕ) (g : Bool) (at : ℕ) → List ℕ
+keyFrom L s g at = written (left g (itemsOf s (recordsFrom L s at false)))
+
+-- past the end there is nothing
+pub key-past : (L : Lists) (s : List ℕ) (g : Bool) (at : ℕ) → length s ≤ at → keyFrom L s g at ≡ []
+key-past L s g at h =
+    ap (λ (ts : List Token). written (left g (itemsOf s ts))) (records-past L s at false (none-past s at h)) ∙ ap written (left-none g)
+
+pub broken-past : (L : Lists) (s : List ℕ) (at : ℕ) → length s ≤ at → firstBroken (recordsFrom L s at false) ≡ find.nowhere
+broken-past L s at h = ap firstBroken (records-past L s at false (none-past s at h))
+
+-- A STEP at a boundary before the end
+module _ (L : Lists) (s : List ℕ) (at : ℕ) (w : WellFormed s) (b : onBoundary s at ≡ true) (l : at < length s) where
+  stepped : recordsFrom L s at false ≡ scanAt L s at false .token ∷ recordsFrom L s (scanAt L s at false .next) false
+  unfolding scanAt
+  stepped =
+      let t = char-there s at w b l in
+      step-records L s at false (t .0) (t .1) (t .2)
+      ∙ ap (λ (o : Bool). scanAt L s at false .token ∷ recordsFrom L s (scanAt L s at false .next) o) (off-stays L (chars (drop at s)))
+
+  module _ {x : Scan} (e : x ≡ scanAt L s at false) where
+    records-step : recordsFrom L s at false ≡ x .token ∷ recordsFrom L s (x .next) false
+    records-step = subst (λ (y : Scan). recordsFrom L s at false ≡ y .token ∷ recordsFrom L s (y .next) false) (sym e) stepped
+
+    starts-here : x .token .start ≡ at
+    unfolding scanAt
+    starts-here = ap (λ (y : Scan). y .token .start) e
+
+    pub ends-there : x .next ≡ at + x .token .len
+    unfolding scanAt
+    ends-there = subst (λ (y : Scan). y .next ≡ at + y .token .len) (sym e) refl
+
+    -- the token's bytes are the text's from here to the next position
+    own-bytes : meaning.bytesOf s (x .token) ≡ take (x .next - at) (drop at s)
+    own-bytes =
+        let n : x .token .len ≡ x .next - at = omega (arith, ends-there) in
+        ap (λ (k : ℕ). take (x .token .len) (drop k s)) starts-here ∙ ap (λ (k : ℕ). take k (drop at s)) n
+
+    pub key-step : (g : Bool) → keyFrom L s g at ≡ piece (isTrivia (x .token .kind)) g (take (x .next - at) (drop at s)) ++ keyFrom L s (isTrivia (x .token .kind)) (x .next)
+    key-step g =
+        ap (λ (ts : List Token). written (left g (itemsOf s ts))) records-step
+        ∙ one-left (isTrivia (x .token .kind)) g (x .token .kind) (meaning.bytesOf s (x .token)) (itemsOf s (recordsFrom L s (x .next) false))
+        ∙ ap (λ (bs : List ℕ). piece (isTrivia (x .token .kind)) g bs ++ keyFrom L s (isTrivia (x .token .kind)) (x .next)) own-bytes
+
+    pub broken-step : firstBroken (recordsFrom L s at false) ≡ pick (isBroken (x .token .kind)) (find.at at) (firstBroken (recordsFrom L s (x .next) false))
+    broken-step = ap firstBroken records-step ∙ ap (λ (k : ℕ). pick (isBroken (x .token .kind)) (find.at k) (firstBroken (recordsFrom L s (x .next) false))) starts-here
+
+    -- it ends in the text
+    pub ends-inside : x .next ≤ length s
+    ends-inside =
+        let p = boundary-parts s (x .next) (ap (λ (y : Scan). onBoundary s (y .next)) e ∙ next-boundary L s at false b) in
+        omega (arith, p .bytes, ap size (p .joined), size-append (p .before) (chars (drop (x .next) s)), size-chars s)
+
+    -- as long as its record says
+    own-long : length (take (x .next - at) (drop at s)) ≡ x .next - at
+    own-long = length-take-le (x .next - at) (drop at s) (omega (arith, ends-inside, length-drop at s))
+
+    pub piece-here : (g : Bool) → length (keyFrom L s g at) ≡ pieceBytes (isTrivia (x .token .kind)) g (x .next - at) + length (keyFrom L s (isTrivia (x .token .kind)) (x .next))
+    piece-here g =
+        let t = isTrivia (x .token .kind) in
+        ap length (key-step g) ∙ length-append (piece t g (take (x .next - at) (drop at s))) (keyFrom L s t (x .next))
+        ∙ ap (λ (k : ℕ). k + length (keyFrom L s t (x .next))) (piece-long t g (take (x .next - at) (drop at s)) ∙ ap (pieceBytes t g) own-long)
+
+    pub next-edged : onBoundary s (x .next) ≡ true
+    next-edged = ap (λ (y : Scan). onBoundary s (y .next)) e ∙ next-boundary L s at false b
+
+    pub less-left : length (chars (drop (x .next) s)) < length (chars (drop at s))
+    less-left = subst (λ (y : Scan). length (chars (drop (y .next) s)) < length (chars (drop at s))) (sym e) (fewer L s at false w b l)

@@ -1,0 +1,55 @@
+-- What the key call answers, and what the lent buffer holds then (document 01, "When the build says no" and "The key"). `limit` is the most pairs
+-- of a list.
+use Prim.Native.Nat.{ℕ}
+use mathlib.Core.Path.{_≡_}
+use mathlib.Core.List.{List, _++_}
+use lib.Dec.{leb}
+use lib.ListN.{length, drop}
+use Rattle.basics.specs.Choice.{pick}
+use Rattle.eaters.specs.Find.{Place, at, nowhere}
+use Rattle.refusal.specs.declared.Numbers.{Numbers}
+use Rattle.refusal.specs.declared.Verdict.{Verdict}
+use Rattle.refusal.specs.declared.Verdict.the-variants as verdict
+use Rattle.refusal.specs.Numbers.{numbers, badNumbers}
+use Rattle.token.specs.Lists.{Lists}
+use Rattle.lexer.specs.Answers.{tokenVerdict}
+use Rattle.canon.specs.Keyable.{brokenAt}
+use Rattle.canon.specs.Key.{keyOf}
+use Rattle.key.specs.declared.KeyAnswer.{KeyAnswer}
+use Rattle.key.specs.declared.KeyAnswer.the-variants.{Keyed, Broken, Room, Refused}
+
+-- 7: fewer bytes than the key has; else the key's bytes
+abbrev pub roomed : (needed room : ℕ) → KeyAnswer
+roomed needed room = pick (leb needed room) (Keyed needed) (Room needed)
+
+-- 6: a broken token, with the start of the first
+abbrev pub unbroken : Place → KeyAnswer → KeyAnswer
+unbroken (at start) answer = Broken start
+unbroken nowhere answer = answer
+
+abbrev pub checked : Verdict → KeyAnswer → KeyAnswer
+checked verdict.Fine answer = answer
+checked (verdict.Refused bad) answer = Refused bad
+
+-- THE ANSWER: 1, 3, 2 as the one-token call has them, then 6, then 7
+abbrev pub keyAnswer : (limit : ℕ) (s : List ℕ) → Lists → (room : ℕ) → KeyAnswer
+keyAnswer limit s L room = checked (tokenVerdict limit s L) (unbroken (brokenAt L s) (roomed (length (keyOf L s)) room))
+
+-- THE CONTENTS: on success the key, and past it what was there; a refusal changes nothing
+abbrev pub held : KeyAnswer → (key before : List ℕ) → List ℕ
+held (Keyed n) key before = key ++ drop n before
+held (Broken start) key before = before
+held (Room n) key before = before
+held (Refused bad) key before = before
+
+-- THE PROMISE of the key call: the answer r, and the buffer from before to after
+pub record Keying (limit : ℕ) (s : List ℕ) (L : Lists) (before after : List ℕ) (r : KeyAnswer) : Type 0 where
+  pub answer : r ≡ keyAnswer limit s L (length before)
+  pub holds : after ≡ held r (keyOf L s) before
+
+-- by number: done is 0, with the key's bytes; 6, with the start of the first broken token; 7, with the bytes needed
+abbrev pub keyNumbers : KeyAnswer → Numbers
+keyNumbers (Keyed n) = numbers 0 n 0
+keyNumbers (Broken start) = numbers 6 start 0
+keyNumbers (Room n) = numbers 7 n 0
+keyNumbers (Refused bad) = badNumbers bad
