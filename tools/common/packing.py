@@ -8,9 +8,10 @@ FILE_LIMIT = 262144
 ANSWER_LIMIT = 65536
 
 VERDICT, VERDICT_AFTER, WHITESPACE, HORIZONTAL, START, CONTINUE, EMOJI, IDENT = range(1, 9)
-ONE, TOKENS, SHEBANG, RAW, GUARDED, TOKENS_ONCE, LIST, SLOTS = range(9, 17)
-# The records that operation 15 lends.
+ONE, TOKENS, SHEBANG, RAW, GUARDED, TOKENS_ONCE, LIST, SLOTS, KEY = range(9, 18)
+# The records that operation 15 lends, and the most bytes that operation 17 does.
 RECORDS = 64
+MOST_ROOM = 4096
 CLASS_NAMES = {
     WHITESPACE: "whitespace",
     HORIZONTAL: "horizontal",
@@ -41,7 +42,14 @@ def section(lists, vectors):
 SIZES = {ONE: (8, 28), SHEBANG: (0, 12), RAW: (4, 24), GUARDED: (4, 24), SLOTS: (8, 12)}
 
 
-def of_the_format(operation, handed_in, answer):
+def of_the_format(operation, given, answer):
+    """Whether an operation takes the bytes that are given, and answers with so many."""
+    handed_in = len(given)
+    if operation == KEY:
+        if handed_in < 8:
+            return False
+        room, fill = numbers_in(given[:8])
+        return room <= MOST_ROOM and fill <= 255 and answer == 12 + room
     if operation == VERDICT_AFTER:
         return handed_in <= 8 and answer == 256
     if operation in CLASS_NAMES:
@@ -80,11 +88,12 @@ def read_back(data):
         count = number()
         for _ in range(count):
             operation = number()
-            handed_in = number()
-            at += handed_in
+            length = number()
+            given = data[at : at + length]
+            at += length
             answer = number()
             at += answer
-            if not of_the_format(operation, handed_in, answer):
+            if not of_the_format(operation, given, answer):
                 sys.exit("a vector is not of the format")
         total += count
     if at != len(data):

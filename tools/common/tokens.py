@@ -1,4 +1,4 @@
-"""Vectors of the calls that read tokens: operations 9 to 16 of tools/oracle/README.md.
+"""Vectors of the calls that read tokens: operations 9 to 17 of tools/oracle/README.md.
 
 What the Rust can say comes from the oracle. The Rust has no word for a refusal: there the
 rules of the scope paper are applied here, in the plainest way and in the paper's order.
@@ -6,9 +6,11 @@ rules of the scope paper are applied here, in the plainest way and in the paper'
 
 import sys
 
+from common.keys import first_broken, key_of, pieces
 from common.lists import bad_index
 from common.packing import (
-    ANSWER_LIMIT, GUARDED, LIST, ONE, RAW, RECORDS, SHEBANG, SLOTS, TOKENS, numbers_in, numbers_of, section, vector,
+    ANSWER_LIMIT, GUARDED, KEY, LIST, MOST_ROOM, ONE, RAW, RECORDS, SHEBANG, SLOTS, TOKENS,
+    numbers_in, numbers_of, section, vector, vector_at,
 )
 from common.texts import request
 
@@ -24,6 +26,8 @@ DOC_STYLES = ["none", "outer", "inner"]
 MODES = ["off", "on"]
 # What a record of operation 15 holds before the call: a Bang of 5 bytes at 3.
 BLANK = (KINDS.index("Bang"), 0, 5, 3)
+# What the bytes of operation 17 may hold before the call: bytes of texts and of keys, and others.
+FILLS = [0x00, 0x0A, 0x20, 0x2F, 0x61, 0x7F, 0x80, 0xAA, 0xC3, 0xFF]
 
 
 # ---- tokens as numbers ----
@@ -96,6 +100,7 @@ class Calls:
         self.lists = lists
         self.bad = [bad_index(numbers) for numbers in lists]
         self.vectors = {}
+        self.keys = {}
         self.size = 0
         self.panics = 0
         self.too_long = 0
@@ -153,11 +158,15 @@ class Calls:
             self.work += len(text) * max(len(answer) // 16, 1)
         self.add(operation, numbers_of(flag) + text, answer)
 
-    def token_list(self, flag, text, words):
-        # A second witness: the iterator of 000 gives the same tokens.
+    def listed(self, flag, text, words):
+        """The tokens without Eof by a second witness, the iterator of 000, which gives the same ones."""
         listed = [word for word in self.ask("tokens", MODES[flag], text.hex()) if word != "-"]
         if listed != [word.rsplit(",", 1)[0] for word in words[:-1]]:
             sys.exit(f"two ways of reading tokens differ on {text.hex()}")
+        return listed
+
+    def token_list(self, flag, text, words):
+        self.listed(flag, text, words)
         tokens = [token_numbers(word) for word in words]
         check_flags(flag, tokens)
         lengths = [length for _, _, length, _ in tokens]
@@ -198,6 +207,46 @@ class Calls:
         if refused is None:
             refused = numbers_of(0 if len(records) <= slots else 5, len(records), 0)
         self.add(SLOTS, numbers_of(flag, slots) + text, refused)
+
+    def keyed(self, text):
+        """A refusal's numbers and no key, or None and the key: what every room has in common."""
+        if text not in self.keys:
+            refused = self.refusal(3, text)
+            key = None
+            if refused is None:
+                found = pieces(text, self.listed(0, text, self.ask("steps", "off", text.hex())))
+                place = first_broken(found)
+                refused = None if place is None else numbers_of(6, place, 0)
+                key = key_of(found) if refused is None else None
+            self.keys[text] = refused, key
+            # True of every key: it is no longer than its text, and its own key.
+            if key is not None and (len(key) > len(text) or self.keyed(key) != (None, key)):
+                sys.exit(f"not a key: {key.hex()}, of {text.hex()}")
+        return self.keys[text]
+
+    def key(self, room, fill, text):
+        """With so many bytes lent, each of which is `fill`: the answer, and what they hold then."""
+        refused, key = self.keyed(text)
+        buffer = bytes([fill]) * room
+        if refused is None and len(key) > room:
+            refused = numbers_of(7, len(key), 0)
+        if refused is None:
+            answer = numbers_of(0, len(key), 0) + key + buffer[len(key) :]
+        else:
+            answer = refused + buffer
+        self.add(KEY, numbers_of(room, fill) + text, answer)
+
+    def key_answers(self):
+        """The first number of each answer of operation 17."""
+        made = (vector_at(data, 0) for data in self.vectors)
+        return [numbers_in(answer[:4])[0] for operation, _, answer in made if operation == KEY]
+
+    def key_somewhere(self, numbers, text):
+        """In a room by chance: mostly exactly enough or a little more, now and then a byte less."""
+        _, key = self.keyed(text)
+        length = len(text) if key is None else len(key)
+        room = length + numbers.pick([0, 0, 0, 0, 0, 1, 2, 5, -1, -1])
+        self.key(min(max(room, 0), MOST_ROOM), numbers.pick(FILLS), text)
 
     def shebang(self, text):
         answer = self.refusal(0, text)

@@ -169,6 +169,7 @@ fn answer(
         13 => replies::guarded_string(input, starts, continues, out),
         14 => replies::tokens_once(input, starts, continues, emoji, out),
         16 => listings::slots(input, starts, continues, emoji, out),
+        17 => keyings::keyed(input, starts, continues, emoji, out),
         _ => 0,
     }
 }

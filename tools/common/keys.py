@@ -1,0 +1,57 @@
+"""The key of a text by the words of the scope paper, from the tokens that the oracle reads in it.
+
+Trivia are whitespace and the comments whose doc style is none. Broken are the literals that
+are not terminated or have no hash count, and every block comment that is not terminated. A key
+is the text with each longest run of trivia, at the ends too, as one newline byte.
+"""
+
+import itertools
+import sys
+
+
+class Piece:
+    """A token as the oracle writes it: its kind, what the kind holds, where it stands and its bytes."""
+
+    def __init__(self, text, start, word):
+        self.kind, *self.holds, length = word.split(",")
+        self.start = start
+        self.bytes = text[start : start + int(length, 16)]
+
+
+def pieces(text, words):
+    """The tokens of a text, Eof not among them: together they are the text."""
+    found = []
+    start = 0
+    for word in words:
+        piece = Piece(text, start, word)
+        start += len(piece.bytes)
+        found.append(piece)
+    if b"".join(piece.bytes for piece in found) != text:
+        sys.exit(f"the tokens are not the text: {text.hex()}")
+    return found
+
+
+def is_trivia(piece):
+    if piece.kind in ("LineComment", "BlockComment"):
+        return piece.holds[0] == "none"
+    return piece.kind == "Whitespace"
+
+
+def is_broken(piece):
+    if piece.kind == "BlockComment":
+        return piece.holds[1] == "false"
+    if piece.kind != "Literal" or piece.holds[0] in ("Int", "Float"):
+        return False
+    return piece.holds[1] == ("none" if piece.holds[0].startswith("Raw") else "false")
+
+
+def first_broken(found):
+    """The place of the first broken token, or None."""
+    return next((piece.start for piece in found if is_broken(piece)), None)
+
+
+def key_of(found):
+    key = b""
+    for trivia, run in itertools.groupby(found, is_trivia):
+        key += b"\n" if trivia else b"".join(piece.bytes for piece in run)
+    return key
