@@ -2,18 +2,14 @@
 -- that a call wrote which answered `Keyed n`.
 use Prim.Native.Nat.{ℕ, _≤_}
 use mathlib.Core.Path.{_≡_, refl, sym, ap, subst, _∙_}
-use mathlib.Core.Bool.{Bool, true, false, true≢false}
 use mathlib.Core.Logic.{_↔_}
 use mathlib.Core.List.{List}
-use lib.Dec.{leb}
 use lib.ListN.{length, take, drop}
 use lib.Seq.{take-at}
-use borrow.Author.Tests.{leb-true, le-leb, le-ltb, eq-eqb}
+use borrow.Author.Tests.{le-leb, le-ltb, eq-eqb}
 use native.Mathlib.Omega.{arith}
-use Rattle.basics.specs.Choice.{pick}
-use Rattle.eaters.specs.Find.{Place, at, nowhere}
+use Rattle.eaters.specs.Find.{nowhere}
 use Rattle.refusal.specs.declared.Bad.the-variants as bad
-use Rattle.refusal.specs.declared.Verdict.{Verdict}
 use Rattle.refusal.specs.declared.Verdict.the-variants as verdict
 use Rattle.refusal.specs.Order.{listsInOrder}
 use Rattle.refusal.proofs.Orders.{first-1, first-2}
@@ -23,47 +19,16 @@ use Rattle.lists.specs.Rules.{listVerdict}
 use Rattle.token.specs.Lists.{Lists}
 use Rattle.lexer.specs.Answers.{tokenVerdict}
 use Rattle.lexer.proofs.Checks.{step-ready}
-use Rattle.canon.specs.Keyable.{brokenAt, Keyable}
+use Rattle.canon.specs.Keyable.{brokenAt}
 use Rattle.canon.specs.Meaning.{meaning}
 use Rattle.canon.specs.Key.{keyOf}
 use Rattle.canon.specs.Fair.{Fair}
 use Rattle.canon.proofs.Short.{key-short}
 use Rattle.canon.proofs.Canon.{key-well, key-again, again-keyable, canonical}
 use Rattle.key.specs.declared.KeyAnswer.{KeyAnswer}
-use Rattle.key.specs.declared.KeyAnswer.the-variants.{Keyed, Broken, Room, Refused}
-use Rattle.key.specs.Answers.{unbroken, checked, keyAnswer, Keying}
-
--- what an answer of success tells of the text, the lists and the room
-record Done (limit : ℕ) (s : List ℕ) (L : Lists) (room n : ℕ) : Type 0 where
-  fine : tokenVerdict limit s L ≡ verdict.Fine
-  keyable : Keyable L s
-  long : n ≡ length (keyOf L s)
-  fits : n ≤ room
-
-abbrev isKeyed : KeyAnswer → Bool
-isKeyed (Keyed n) = true
-isKeyed (Broken start) = false
-isKeyed (Room n) = false
-isKeyed (Refused bad) = false
-
-abbrev bytesIn : KeyAnswer → ℕ
-bytesIn (Keyed n) = n
-bytesIn (Broken start) = 0
-bytesIn (Room n) = 0
-bytesIn (Refused bad) = 0
-
-module _ {limit : ℕ} {s : List ℕ} {L : Lists} {room n : ℕ} where
-  by-cases : (v : Verdict) (p : Place) (t : Bool) → tokenVerdict limit s L ≡ v → brokenAt L s ≡ p → leb (length (keyOf L s)) room ≡ t
-      → Keyed n ≡ checked v (unbroken p (pick t (Keyed (length (keyOf L s))) (Room (length (keyOf L s))))) → Done limit s L room n
-  by-cases verdict.Fine nowhere true f p q e =
-      let k : n ≡ length (keyOf L s) = ap bytesIn e in
-      record { fine = f; keyable = p; long = k; fits = omega (arith, k, leb-true (length (keyOf L s)) room q) }
-  by-cases verdict.Fine nowhere false f p q e = absurd (true≢false (ap isKeyed e))
-  by-cases verdict.Fine (at start) t f p q e = absurd (true≢false (ap isKeyed e))
-  by-cases (verdict.Refused b) p t f g q e = absurd (true≢false (ap isKeyed e))
-
-  done : Keyed n ≡ keyAnswer limit s L room → Done limit s L room n
-  done = by-cases (tokenVerdict limit s L) (brokenAt L s) (leb (length (keyOf L s)) room) refl refl refl
+use Rattle.key.specs.declared.KeyAnswer.the-variants.{Keyed}
+use Rattle.key.proofs.Fits.{Done, done}
+use Rattle.key.specs.Answers.{Keying}
 
 fair-of : (limit : ℕ) (s : List ℕ) (L : Lists) → tokenVerdict limit s L ≡ verdict.Fine → Fair L
 fair-of limit s L e = step-ready limit s (L .starts) (L .continues) (L .emoji) (sym e) refl .1

@@ -4,4 +4,5 @@ mod Measures
 mod Layings
 mod Calls
 pub mod Answers
+pub mod Fits
 pub mod Canonical

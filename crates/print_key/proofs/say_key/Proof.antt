@@ -1,5 +1,5 @@
--- `print_key::say_key` meets its contract. A key that was written fits (Fits).
-use Rattle.print_key.proofs.Fits.{key-fits, key-part}
+-- `print_key::say_key` meets its contract. A key that was written fits (`key/proofs/Fits`).
+use Rattle.key.proofs.Fits.{key-fits, key-part}
 use borrow.Author.Needs.{needs}
 use Rattle.print_key.proofs.say_key.Statement.{statement}
 use Rattle.print_key.proofs.say_key.Tie as tie
