@@ -1,0 +1,7 @@
+/* For the test alone: the toolchain's clang comes without headers. */
+#ifndef STDBOOL_H
+#define STDBOOL_H
+#define bool _Bool
+#define true 1
+#define false 0
+#endif

@@ -1,0 +1,5 @@
+/* For the test alone: the toolchain's clang comes without headers. */
+#ifndef STDDEF_H
+#define STDDEF_H
+typedef __SIZE_TYPE__ size_t;
+#endif

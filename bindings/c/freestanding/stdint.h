@@ -1,0 +1,6 @@
+/* For the test alone: the toolchain's clang comes without headers. */
+#ifndef STDINT_H
+#define STDINT_H
+typedef __UINT8_TYPE__ uint8_t;
+typedef __UINT32_TYPE__ uint32_t;
+#endif

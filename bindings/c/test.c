@@ -1,0 +1,464 @@
+/* Calls every export, and compares what comes back with what document 01 and the Rust say: every number below is written by hand.
+ * It is built without a header of the system; the last line says how many checks there were, and how many failed. */
+#include "lovemudarn.h"
+
+extern int printf(const char *, ...);
+extern void *mmap(void *, size_t, int, int, int, long);
+extern int mprotect(void *, size_t, int);
+
+static unsigned long checks, failed;
+
+/* one check: two numbers are the same */
+static void same(const char *what, const char *part, unsigned long told, unsigned long right) {
+    checks += 1;
+    if (told != right) {
+        failed += 1;
+        printf("FAILED: %s: %s is %lu, not %lu\n", what, part, told, right);
+    }
+}
+
+/* a text of C, without its 0 */
+#define TEXT(s) (const uint8_t *)(s), sizeof(s) - 1
+
+/* no list: a pointer to some number, and 0 of them */
+static const uint32_t some[1] = {7};
+#define NONE some, 0
+#define NO_LISTS NONE, NONE, NONE
+#define LIST(l) l, sizeof(l) / sizeof(l[0])
+
+/* good lists: e with an acute accent is a letter, U+1F600 to U+1F64F are emoji */
+static const uint32_t letters[2] = {0xE9, 0xE9};
+static const uint32_t faces[2] = {0x1F600, 0x1F64F};
+
+/* lists that break a rule */
+static const uint32_t low[2] = {0x41, 0x5A};
+static const uint32_t half[3] = {0x100, 0x200, 0x300};
+static const uint32_t meeting[4] = {0x1F600, 0x1F64F, 0x1F64F, 0x1F700};
+static const uint32_t surrogate[4] = {0x100, 0x100, 0xD700, 0xD800};
+static uint32_t many[4098];
+
+static void answer(const char *what, struct lovemudarn_answer a, unsigned long number, unsigned long beside, unsigned long second) {
+    same(what, "number", a.number, number);
+    same(what, "beside", a.beside, beside);
+    same(what, "second", a.second, second);
+}
+
+static void test_check(void) {
+    answer("check: nothing", lovemudarn_check(TEXT(""), NO_LISTS), LOVEMUDARN_DONE, 0, 0);
+    answer("check: a text and lists", lovemudarn_check(TEXT("caf\303\251"), LIST(letters), LIST(letters), LIST(faces)), LOVEMUDARN_DONE, 0, 0);
+    answer("check: a surrogate in the text", lovemudarn_check(TEXT("caf\303\251 \355\240\200"), NO_LISTS), LOVEMUDARN_NOT_UTF8, 6, 0);
+    answer("check: an overlong form", lovemudarn_check(TEXT("a\300\200"), NO_LISTS), LOVEMUDARN_NOT_UTF8, 1, 0);
+    answer("check: a cut sequence", lovemudarn_check(TEXT("a\342\202"), NO_LISTS), LOVEMUDARN_NOT_UTF8, 1, 0);
+    answer("check: below 0x80", lovemudarn_check(TEXT("a"), LIST(low), NONE, NONE), LOVEMUDARN_BAD_LIST, LOVEMUDARN_LIST_STARTS, 0);
+    answer("check: a half pair", lovemudarn_check(TEXT("a"), NONE, LIST(half), NONE), LOVEMUDARN_BAD_LIST, LOVEMUDARN_LIST_CONTINUES, 1);
+    answer("check: not above", lovemudarn_check(TEXT("a"), NONE, NONE, LIST(meeting)), LOVEMUDARN_BAD_LIST, LOVEMUDARN_LIST_EMOJI, 1);
+    answer("check: a surrogate in a list", lovemudarn_check(TEXT("a"), NONE, LIST(surrogate), NONE), LOVEMUDARN_BAD_LIST, LOVEMUDARN_LIST_CONTINUES, 1);
+    answer("check: too many pairs", lovemudarn_check(TEXT("a"), LIST(many), NONE, NONE), LOVEMUDARN_BAD_LIST, LOVEMUDARN_LIST_STARTS, 2048);
+    answer("check: lists in order", lovemudarn_check(TEXT("a"), NONE, LIST(half), LIST(meeting)), LOVEMUDARN_BAD_LIST, LOVEMUDARN_LIST_CONTINUES, 1);
+    answer("check: 3 before 2", lovemudarn_check(TEXT("\377"), NONE, NONE, LIST(low)), LOVEMUDARN_BAD_LIST, LOVEMUDARN_LIST_EMOJI, 0);
+}
+
+static void given(const char *what, struct lovemudarn_token_answer a, unsigned long kind, unsigned long suffix, unsigned long len, unsigned long start,
+                  bool on) {
+    same(what, "number", a.number, LOVEMUDARN_DONE);
+    same(what, "beside", a.beside, start + len);
+    same(what, "second", a.second, on);
+    same(what, "kind", a.kind, kind);
+    same(what, "suffix_start", a.suffix_start, suffix);
+    same(what, "len", a.len, len);
+    same(what, "start", a.start, start);
+    same(what, "next", a.next, start + len);
+    same(what, "on", a.on, on);
+}
+
+static void no_token(const char *what, struct lovemudarn_token_answer a, unsigned long number, unsigned long beside, unsigned long second) {
+    same(what, "number", a.number, number);
+    same(what, "beside", a.beside, beside);
+    same(what, "second", a.second, second);
+    same(what, "kind", a.kind, 0);
+    same(what, "suffix_start", a.suffix_start, 0);
+    same(what, "len", a.len, 0);
+    same(what, "start", a.start, 0);
+    same(what, "next", a.next, 0);
+    same(what, "on", a.on, 0);
+}
+
+/* the first token of a text; suffix: 0 where it is no literal */
+#define FIRST(s, kind, suffix, len) given(s, lovemudarn_token(TEXT(s), NO_LISTS, 0, false), kind, suffix, len, 0, false)
+/* the same with good lists */
+#define LISTED(s, kind, len) given(s, lovemudarn_token(TEXT(s), LIST(letters), LIST(letters), LIST(faces), 0, false), kind, 0, len, 0, false)
+/* frontmatter */
+#define FRONT(s, code, len, after) given(s, lovemudarn_token(TEXT(s), NO_LISTS, 0, true), code, 0, len, 0, after)
+
+#define LITERAL(literal, detail) (LOVEMUDARN_KIND_LITERAL + 64 * (literal + 16 * (detail)))
+
+static void test_token(void) {
+    /* the rows of document 01 */
+    FIRST("/*/*/", LOVEMUDARN_KIND_BLOCK_COMMENT, 0, 5);
+    FIRST("/***/", LOVEMUDARN_KIND_BLOCK_COMMENT + 64 * 4, 0, 5);
+    FIRST("/**a*/", LOVEMUDARN_KIND_BLOCK_COMMENT + 64 * (LOVEMUDARN_DOC_OUTER + 4), 0, 6);
+    FIRST("////", LOVEMUDARN_KIND_LINE_COMMENT, 0, 4);
+    FIRST("r##~x", LITERAL(LOVEMUDARN_LITERAL_RAW_STR, 0), 4, 4);
+    FIRST("'ab'c", LITERAL(LOVEMUDARN_LITERAL_CHAR, 1), 4, 4);
+    FIRST("'a'c", LITERAL(LOVEMUDARN_LITERAL_CHAR, 1), 3, 4);
+    FIRST("'''", LITERAL(LOVEMUDARN_LITERAL_CHAR, 1), 3, 3);
+    FIRST("1.foo", LITERAL(LOVEMUDARN_LITERAL_INT, LOVEMUDARN_BASE_DECIMAL), 1, 1);
+    FIRST("1.", LITERAL(LOVEMUDARN_LITERAL_FLOAT, LOVEMUDARN_BASE_DECIMAL), 2, 2);
+    FIRST("12_u8", LITERAL(LOVEMUDARN_LITERAL_INT, LOVEMUDARN_BASE_DECIMAL), 3, 5);
+    FIRST("0b2", LITERAL(LOVEMUDARN_LITERAL_INT, LOVEMUDARN_BASE_BINARY), 3, 3);
+    FIRST("0x1e3", LITERAL(LOVEMUDARN_LITERAL_INT, LOVEMUDARN_BASE_HEXADECIMAL), 5, 5);
+    FRONT("---\nx\n---\n", LOVEMUDARN_KIND_FRONTMATTER, 9, false);
+    FRONT("---\n----x\n", LOVEMUDARN_KIND_FRONTMATTER, 9, false);
+    FRONT("----\nx\n---\ny", LOVEMUDARN_KIND_FRONTMATTER, 10, false);
+    FRONT("--- a\nb---  ---\nz", LOVEMUDARN_KIND_FRONTMATTER, 15, false);
+
+    /* one of each kind, and what its code holds */
+    FIRST("/// a\nb", LOVEMUDARN_KIND_LINE_COMMENT + 64 * LOVEMUDARN_DOC_OUTER, 0, 5);
+    FIRST("//! a", LOVEMUDARN_KIND_LINE_COMMENT + 64 * LOVEMUDARN_DOC_INNER, 0, 5);
+    FIRST("/*! a", LOVEMUDARN_KIND_BLOCK_COMMENT + 64 * LOVEMUDARN_DOC_INNER, 0, 5);
+    FIRST("/**/", LOVEMUDARN_KIND_BLOCK_COMMENT + 64 * 4, 0, 4);
+    FIRST(" \t\nx", LOVEMUDARN_KIND_WHITESPACE, 0, 3);
+    FIRST("---\n", LOVEMUDARN_KIND_MINUS, 0, 1);
+    FRONT(" ---\nx\n---\n", LOVEMUDARN_KIND_FRONTMATTER + 64 * 1, 10, false);
+    FRONT("---!\nx\n---\n", LOVEMUDARN_KIND_FRONTMATTER + 64 * 2, 10, false);
+    FRONT(" ---!\nx\n---\n", LOVEMUDARN_KIND_FRONTMATTER + 64 * 3, 11, false);
+    FRONT("\n\nx", LOVEMUDARN_KIND_WHITESPACE, 2, true);
+    FRONT("", LOVEMUDARN_KIND_EOF, 0, true);
+    FRONT("x", LOVEMUDARN_KIND_IDENT, 1, false);
+    FIRST("ab_1+", LOVEMUDARN_KIND_IDENT, 0, 4);
+    LISTED("a\303\251b", LOVEMUDARN_KIND_IDENT, 4);
+    LISTED("a\360\237\230\200", LOVEMUDARN_KIND_INVALID_IDENT, 5);
+    FIRST("r#ab", LOVEMUDARN_KIND_RAW_IDENT, 0, 4);
+    FIRST("k#ab", LOVEMUDARN_KIND_FORCED_KEYWORD_IDENT, 0, 4);
+    FIRST("z\"a\"", LOVEMUDARN_KIND_UNKNOWN_PREFIX, 0, 1);
+    FIRST("'zz#a", LOVEMUDARN_KIND_UNKNOWN_PREFIX_LIFETIME, 0, 3);
+    FIRST("'r#ab", LOVEMUDARN_KIND_RAW_LIFETIME, 0, 5);
+    FIRST("#\"a\"", LOVEMUDARN_KIND_GUARDED_STR_PREFIX, 0, 2);
+    FIRST("'ab ", LOVEMUDARN_KIND_LIFETIME, 0, 3);
+    FIRST("'1b ", LOVEMUDARN_KIND_LIFETIME + 64 * 1, 0, 3);
+    FIRST(";", LOVEMUDARN_KIND_SEMI, 0, 1);
+    FIRST(",", LOVEMUDARN_KIND_COMMA, 0, 1);
+    FIRST(".", LOVEMUDARN_KIND_DOT, 0, 1);
+    FIRST("(", LOVEMUDARN_KIND_OPEN_PAREN, 0, 1);
+    FIRST(")", LOVEMUDARN_KIND_CLOSE_PAREN, 0, 1);
+    FIRST("{", LOVEMUDARN_KIND_OPEN_BRACE, 0, 1);
+    FIRST("}", LOVEMUDARN_KIND_CLOSE_BRACE, 0, 1);
+    FIRST("[", LOVEMUDARN_KIND_OPEN_BRACKET, 0, 1);
+    FIRST("]", LOVEMUDARN_KIND_CLOSE_BRACKET, 0, 1);
+    FIRST("@", LOVEMUDARN_KIND_AT, 0, 1);
+    FIRST("#", LOVEMUDARN_KIND_POUND, 0, 1);
+    FIRST("~", LOVEMUDARN_KIND_TILDE, 0, 1);
+    FIRST("?", LOVEMUDARN_KIND_QUESTION, 0, 1);
+    FIRST(":", LOVEMUDARN_KIND_COLON, 0, 1);
+    FIRST("$", LOVEMUDARN_KIND_DOLLAR, 0, 1);
+    FIRST("=", LOVEMUDARN_KIND_EQ, 0, 1);
+    FIRST("!", LOVEMUDARN_KIND_BANG, 0, 1);
+    FIRST("<", LOVEMUDARN_KIND_LT, 0, 1);
+    FIRST(">", LOVEMUDARN_KIND_GT, 0, 1);
+    FIRST("-", LOVEMUDARN_KIND_MINUS, 0, 1);
+    FIRST("&", LOVEMUDARN_KIND_AND, 0, 1);
+    FIRST("|", LOVEMUDARN_KIND_OR, 0, 1);
+    FIRST("+", LOVEMUDARN_KIND_PLUS, 0, 1);
+    FIRST("*", LOVEMUDARN_KIND_STAR, 0, 1);
+    FIRST("/", LOVEMUDARN_KIND_SLASH, 0, 1);
+    FIRST("^", LOVEMUDARN_KIND_CARET, 0, 1);
+    FIRST("%", LOVEMUDARN_KIND_PERCENT, 0, 1);
+    FIRST("\303\251", LOVEMUDARN_KIND_UNKNOWN, 0, 2);
+    FIRST("\0", LOVEMUDARN_KIND_UNKNOWN, 0, 1);
+    FIRST("", LOVEMUDARN_KIND_EOF, 0, 0);
+
+    /* the literals */
+    FIRST("0o7", LITERAL(LOVEMUDARN_LITERAL_INT, LOVEMUDARN_BASE_OCTAL), 3, 3);
+    FIRST("0x", LITERAL(LOVEMUDARN_LITERAL_INT, LOVEMUDARN_BASE_HEXADECIMAL + 4), 2, 2);
+    FIRST("1e", LITERAL(LOVEMUDARN_LITERAL_FLOAT, LOVEMUDARN_BASE_DECIMAL + 4), 2, 2);
+    FIRST("'", LITERAL(LOVEMUDARN_LITERAL_CHAR, 0), 1, 1);
+    FIRST("b'a'", LITERAL(LOVEMUDARN_LITERAL_BYTE, 1), 4, 4);
+    FIRST("\"a\"u8", LITERAL(LOVEMUDARN_LITERAL_STR, 1), 3, 5);
+    FIRST("\"a", LITERAL(LOVEMUDARN_LITERAL_STR, 0), 2, 2);
+    FIRST("b\"a\"", LITERAL(LOVEMUDARN_LITERAL_BYTE_STR, 1), 4, 4);
+    FIRST("c\"a\"", LITERAL(LOVEMUDARN_LITERAL_C_STR, 1), 4, 4);
+    FIRST("r\"a\"", LITERAL(LOVEMUDARN_LITERAL_RAW_STR, 1), 4, 4);
+    FIRST("r#\"a\"#", LITERAL(LOVEMUDARN_LITERAL_RAW_STR, 1 + 1), 6, 6);
+    FIRST("br##\"a\"##", LITERAL(LOVEMUDARN_LITERAL_RAW_BYTE_STR, 2 + 1), 9, 9);
+    FIRST("cr\"a", LITERAL(LOVEMUDARN_LITERAL_RAW_C_STR, 0), 4, 4);
+
+    /* the parts of a code */
+    same("a code", "its kind", LOVEMUDARN_KIND_OF(LITERAL(LOVEMUDARN_LITERAL_RAW_BYTE_STR, 3)), LOVEMUDARN_KIND_LITERAL);
+    same("a code", "its literal", LOVEMUDARN_LITERAL_OF(LITERAL(LOVEMUDARN_LITERAL_RAW_BYTE_STR, 3)), LOVEMUDARN_LITERAL_RAW_BYTE_STR);
+    same("a code", "what the literal holds", LOVEMUDARN_LITERAL_DETAIL_OF(LITERAL(LOVEMUDARN_LITERAL_RAW_BYTE_STR, 3)), 3);
+    same("a code", "its detail", LOVEMUDARN_DETAIL_OF(LOVEMUDARN_KIND_BLOCK_COMMENT + 64 * 5), 5);
+
+    /* positions */
+    given("a+1 at 1", lovemudarn_token(TEXT("a+1"), NO_LISTS, 1, false), LOVEMUDARN_KIND_PLUS, 0, 1, 1, false);
+    given("a+1 at its end", lovemudarn_token(TEXT("a+1"), NO_LISTS, 3, false), LOVEMUDARN_KIND_EOF, 0, 0, 3, false);
+    given("past a character", lovemudarn_token(TEXT("\303\251 x"), NO_LISTS, 2, true), LOVEMUDARN_KIND_WHITESPACE, 0, 1, 2, true);
+    no_token("past the end", lovemudarn_token(TEXT("a+1"), NO_LISTS, 4, false), LOVEMUDARN_BAD_POSITION, 4, 0);
+    no_token("inside a character", lovemudarn_token(TEXT("\303\251"), NO_LISTS, 1, true), LOVEMUDARN_BAD_POSITION, 1, 0);
+    no_token("the last position", lovemudarn_token(TEXT(""), NO_LISTS, (size_t)-1, false), LOVEMUDARN_BAD_POSITION, (size_t)-1, 0);
+    no_token("2 before 4", lovemudarn_token(TEXT("a\377"), NO_LISTS, 9, false), LOVEMUDARN_NOT_UTF8, 1, 0);
+    no_token("3 before 2", lovemudarn_token(TEXT("a\377"), NONE, NONE, LIST(meeting), 0, false), LOVEMUDARN_BAD_LIST, LOVEMUDARN_LIST_EMOJI, 1);
+}
+
+/* a run of so many numbers, each of them one that no token has in its place */
+static uint32_t run[48];
+#define UNTOUCHED 0xA5A5A5A5u
+
+static void fill_run(void) {
+    for (size_t i = 0; i < 48; i += 1) run[i] = UNTOUCHED;
+}
+
+/* what the run holds: so many numbers, and past them what was there */
+static void holds(const char *what, const uint32_t *right, size_t count) {
+    for (size_t i = 0; i < 48; i += 1) same(what, "a number of the run", run[i], i < count ? right[i] : UNTOUCHED);
+}
+
+#define INT_1 LITERAL(LOVEMUDARN_LITERAL_INT, LOVEMUDARN_BASE_DECIMAL)
+
+static void test_tokens(void) {
+    static const uint32_t sum[12] = {
+        LOVEMUDARN_KIND_IDENT, 0, 1, 0, LOVEMUDARN_KIND_PLUS, 0, 1, 1, INT_1, 1, 1, 2,
+    };
+    fill_run();
+    answer("a+1", lovemudarn_tokens(TEXT("a+1"), NO_LISTS, false, run, 48), LOVEMUDARN_DONE, 3, 0);
+    holds("a+1", sum, 12);
+    fill_run();
+    answer("a+1, just room", lovemudarn_tokens(TEXT("a+1"), NO_LISTS, false, run, 12), LOVEMUDARN_DONE, 3, 0);
+    holds("a+1, just room", sum, 12);
+    fill_run();
+    answer("a+1, one number short", lovemudarn_tokens(TEXT("a+1"), NO_LISTS, false, run, 11), LOVEMUDARN_FEW_SLOTS, 3, 0);
+    holds("a+1, one number short", sum, 0);
+    answer("a+1, no slot", lovemudarn_tokens(TEXT("a+1"), NO_LISTS, false, run, 0), LOVEMUDARN_FEW_SLOTS, 3, 0);
+    holds("a+1, no slot", sum, 0);
+    answer("nothing, no slot", lovemudarn_tokens(TEXT(""), NO_LISTS, true, run, 0), LOVEMUDARN_DONE, 0, 0);
+    holds("nothing, no slot", sum, 0);
+    answer("ill-formed, no slot", lovemudarn_tokens(TEXT("a+\377"), NO_LISTS, false, run, 0), LOVEMUDARN_NOT_UTF8, 2, 0);
+    answer("ill-formed", lovemudarn_tokens(TEXT("a+\377"), NO_LISTS, false, run, 48), LOVEMUDARN_NOT_UTF8, 2, 0);
+    holds("ill-formed", sum, 0);
+    answer("a bad list", lovemudarn_tokens(TEXT("a+\377"), NONE, LIST(low), NONE, false, run, 48), LOVEMUDARN_BAD_LIST, LOVEMUDARN_LIST_CONTINUES, 0);
+    holds("a bad list", sum, 0);
+
+    /* starts, and the text of document 01's key */
+    static const uint32_t mixed[40] = {
+        LOVEMUDARN_KIND_BLOCK_COMMENT + 64 * 4, 0, 7, 0,
+        LOVEMUDARN_KIND_IDENT, 0, 1, 7,
+        LOVEMUDARN_KIND_WHITESPACE, 0, 1, 8,
+        LOVEMUDARN_KIND_EQ, 0, 1, 9,
+        LOVEMUDARN_KIND_WHITESPACE, 0, 1, 10,
+        INT_1, 1, 1, 11,
+        LOVEMUDARN_KIND_SEMI, 0, 1, 12,
+        LOVEMUDARN_KIND_WHITESPACE, 0, 1, 13,
+        LOVEMUDARN_KIND_LINE_COMMENT, 0, 4, 14,
+        LOVEMUDARN_KIND_WHITESPACE, 0, 1, 18,
+    };
+    fill_run();
+    answer("a mixed text", lovemudarn_tokens(TEXT("/* a */x = 1; // b\n"), NO_LISTS, true, run, 43), LOVEMUDARN_DONE, 10, 0);
+    holds("a mixed text", mixed, 40);
+
+    /* frontmatter, and what stands behind it; a suffix that is not at the end */
+    static const uint32_t fronted[12] = {
+        LOVEMUDARN_KIND_FRONTMATTER, 0, 9, 0, LOVEMUDARN_KIND_WHITESPACE, 0, 1, 9, INT_1, 3, 5, 10,
+    };
+    fill_run();
+    answer("frontmatter", lovemudarn_tokens(TEXT("---\nx\n---\n12_u8"), NO_LISTS, true, run, 48), LOVEMUDARN_DONE, 3, 0);
+    holds("frontmatter", fronted, 12);
+    answer("frontmatter off", lovemudarn_tokens(TEXT("---\nx\n---\n12_u8"), NO_LISTS, false, run, 0), LOVEMUDARN_FEW_SLOTS, 11, 0);
+    fill_run();
+    static const uint32_t lettered[8] = {
+        LOVEMUDARN_KIND_IDENT, 0, 4, 0, LOVEMUDARN_KIND_UNKNOWN, 0, 4, 4,
+    };
+    answer("a list's letters", lovemudarn_tokens(TEXT("a\303\251b\360\237\230\200"), LIST(letters), LIST(letters), NONE, false, run, 48), LOVEMUDARN_DONE,
+           2, 0);
+    holds("a list's letters", lettered, 8);
+}
+
+static uint8_t out[32];
+
+static void fill_out(void) {
+    for (size_t i = 0; i < 32; i += 1) out[i] = 0xA5;
+}
+
+static void key_holds(const char *what, const char *right, size_t count) {
+    for (size_t i = 0; i < 32; i += 1) same(what, "a byte of the buffer", out[i], i < count ? (uint8_t)right[i] : 0xA5);
+}
+
+/* the key of a text, in a buffer that is longer */
+#define KEY(s, right)                                                                                                   \
+    (fill_out(), answer(s, lovemudarn_key(TEXT(s), NO_LISTS, out, 32), LOVEMUDARN_DONE, sizeof(right) - 1, 0), \
+     key_holds(s, right, sizeof(right) - 1))
+/* a refusal, with a buffer of so many bytes */
+#define NO_KEY(s, room, number, beside) \
+    (fill_out(), answer(s, lovemudarn_key(TEXT(s), NO_LISTS, out, room), number, beside, 0), key_holds(s, "", 0))
+
+static void test_key(void) {
+    KEY("/* a */x = 1; // b\n", "\nx\n=\n1;\n");
+    KEY("", "");
+    KEY("= =", "=\n=");
+    KEY("==", "==");
+    KEY(" /* a */ // b\n\n", "\n");
+    KEY("/** a */x", "/** a */x");
+    KEY("'a'c", "'a'c");
+    fill_out();
+    answer("just room", lovemudarn_key(TEXT("/* a */x = 1; // b\n"), NO_LISTS, out, 8), LOVEMUDARN_DONE, 8, 0);
+    key_holds("just room", "\nx\n=\n1;\n", 8);
+    NO_KEY("/* a */x = 1; // b\n", 7, LOVEMUDARN_SHORT_BUFFER, 8);
+    NO_KEY("/* a */x = 1; // b\n", 0, LOVEMUDARN_SHORT_BUFFER, 8);
+    NO_KEY("'/**/'", 32, LOVEMUDARN_BROKEN_TOKEN, 0);
+    NO_KEY("x = /*/*/", 32, LOVEMUDARN_BROKEN_TOKEN, 4);
+    NO_KEY("x r##~x \"", 32, LOVEMUDARN_BROKEN_TOKEN, 2);
+    NO_KEY("x \"a", 0, LOVEMUDARN_BROKEN_TOKEN, 2);
+    NO_KEY("x \"a\377", 32, LOVEMUDARN_NOT_UTF8, 4);
+    fill_out();
+    answer("a bad list", lovemudarn_key(TEXT("x \"a\377"), LIST(half), NONE, NONE, out, 32), LOVEMUDARN_BAD_LIST, LOVEMUDARN_LIST_STARTS, 1);
+    key_holds("a bad list", "", 0);
+}
+
+static void test_is_ident(void) {
+    answer("is_ident: nothing", lovemudarn_is_ident(TEXT(""), NONE, NONE), LOVEMUDARN_DONE, 0, 0);
+    answer("is_ident: a1", lovemudarn_is_ident(TEXT("a1"), NONE, NONE), LOVEMUDARN_DONE, 1, 0);
+    answer("is_ident: _", lovemudarn_is_ident(TEXT("_"), NONE, NONE), LOVEMUDARN_DONE, 1, 0);
+    answer("is_ident: 1a", lovemudarn_is_ident(TEXT("1a"), NONE, NONE), LOVEMUDARN_DONE, 0, 0);
+    answer("is_ident: a letter of no list", lovemudarn_is_ident(TEXT("\303\251"), NONE, LIST(letters)), LOVEMUDARN_DONE, 0, 0);
+    answer("is_ident: a letter of the list", lovemudarn_is_ident(TEXT("\303\251"), LIST(letters), NONE), LOVEMUDARN_DONE, 1, 0);
+    answer("is_ident: a bad list", lovemudarn_is_ident(TEXT("\377"), NONE, LIST(low)), LOVEMUDARN_BAD_LIST, LOVEMUDARN_LIST_CONTINUES, 0);
+    answer("is_ident: ill-formed", lovemudarn_is_ident(TEXT("1\377"), NONE, NONE), LOVEMUDARN_NOT_UTF8, 1, 0);
+}
+
+static void test_strip_shebang(void) {
+    answer("shebang", lovemudarn_strip_shebang(TEXT("#!/bin/sh\nx")), LOVEMUDARN_DONE, 9, 0);
+    answer("shebang before CR LF", lovemudarn_strip_shebang(TEXT("#!/bin/sh\r\nx")), LOVEMUDARN_DONE, 9, 0);
+    answer("a shebang alone", lovemudarn_strip_shebang(TEXT("#!")), LOVEMUDARN_DONE, 2, 0);
+    answer("an attribute", lovemudarn_strip_shebang(TEXT("#![allow]\n")), LOVEMUDARN_DONE, 0, 0);
+    answer("an attribute behind trivia", lovemudarn_strip_shebang(TEXT("#! /* a */ // b\n [allow]\n")), LOVEMUDARN_DONE, 0, 0);
+    answer("no shebang", lovemudarn_strip_shebang(TEXT(" #!/bin/sh\n")), LOVEMUDARN_DONE, 0, 0);
+    answer("nothing", lovemudarn_strip_shebang(TEXT("")), LOVEMUDARN_DONE, 0, 0);
+    answer("ill-formed", lovemudarn_strip_shebang(TEXT("#!\nx\377")), LOVEMUDARN_NOT_UTF8, 4, 0);
+}
+
+static void raw(const char *what, struct lovemudarn_raw_str_answer a, unsigned long number, unsigned long beside, unsigned long second,
+                unsigned long bad_char, unsigned long expected, unsigned long found, bool has_offset, unsigned long offset) {
+    same(what, "number", a.number, number);
+    same(what, "beside", a.beside, beside);
+    same(what, "second", a.second, second);
+    same(what, "check", a.check, number == LOVEMUDARN_DONE ? beside : 0);
+    same(what, "bad_char", a.bad_char, bad_char);
+    same(what, "expected", a.expected, expected);
+    same(what, "found", a.found, found);
+    same(what, "has_offset", a.has_offset, has_offset);
+    same(what, "offset", a.offset, offset);
+}
+
+/* r, so many hashes, two quotes and so many hashes, all of them or all but the second hashes and their quote */
+static uint8_t hashes[1 + 256 + 2 + 256];
+
+static void test_validate_raw_str(void) {
+    raw("no terminator", lovemudarn_validate_raw_str(TEXT("r##\"\303\251\"#"), 1), LOVEMUDARN_DONE, LOVEMUDARN_RAW_NO_TERMINATOR, 2, 0, 2, 1, true, 7);
+    raw("no quote at the end", lovemudarn_validate_raw_str(TEXT("br#\"a"), 2), LOVEMUDARN_DONE, LOVEMUDARN_RAW_NO_TERMINATOR, 1, 0, 1, 0, false, 0);
+    raw("good", lovemudarn_validate_raw_str(TEXT("r#\"a\"#"), 1), LOVEMUDARN_DONE, LOVEMUDARN_RAW_GOOD, 0, 0, 0, 0, false, 0);
+    raw("good, br", lovemudarn_validate_raw_str(TEXT("br\"\""), 2), LOVEMUDARN_DONE, LOVEMUDARN_RAW_GOOD, 0, 0, 0, 0, false, 0);
+    raw("good, cr", lovemudarn_validate_raw_str(TEXT("cr\"\""), 2), LOVEMUDARN_DONE, LOVEMUDARN_RAW_GOOD, 0, 0, 0, 0, false, 0);
+    raw("invalid starter", lovemudarn_validate_raw_str(TEXT("r##~x"), 1), LOVEMUDARN_DONE, LOVEMUDARN_RAW_INVALID_STARTER, 126, 126, 0, 0, false, 0);
+    raw("a starter past ASCII", lovemudarn_validate_raw_str(TEXT("r\303\251"), 1), LOVEMUDARN_DONE, LOVEMUDARN_RAW_INVALID_STARTER, 233, 233, 0, 0, false,
+        0);
+    raw("no starter", lovemudarn_validate_raw_str(TEXT("r#"), 1), LOVEMUDARN_DONE, LOVEMUDARN_RAW_INVALID_STARTER, 0, 0, 0, 0, false, 0);
+    for (size_t i = 0; i < sizeof hashes; i += 1) hashes[i] = '#';
+    hashes[0] = 'r';
+    hashes[257] = hashes[258] = '"';
+    raw("too many", lovemudarn_validate_raw_str(hashes, sizeof hashes, 1), LOVEMUDARN_DONE, LOVEMUDARN_RAW_TOO_MANY_DELIMITERS, 256, 0, 0, 256, false, 0);
+    raw("too many, and no end", lovemudarn_validate_raw_str(hashes, 258, 1), LOVEMUDARN_DONE, LOVEMUDARN_RAW_NO_TERMINATOR, 256, 0, 256, 0, false, 0);
+    raw("no r", lovemudarn_validate_raw_str(TEXT("b\"a\""), 1), LOVEMUDARN_BAD_PREFIX, 0, 0, 0, 0, 0, false, 0);
+    raw("another letter", lovemudarn_validate_raw_str(TEXT("xr\"a\""), 2), LOVEMUDARN_BAD_PREFIX, 0, 0, 0, 0, 0, false, 0);
+    raw("no prefix", lovemudarn_validate_raw_str(TEXT("r\"a\""), 0), LOVEMUDARN_BAD_PREFIX, 0, 0, 0, 0, 0, false, 0);
+    raw("nothing", lovemudarn_validate_raw_str(TEXT(""), 1), LOVEMUDARN_BAD_PREFIX, 0, 0, 0, 0, 0, false, 0);
+    raw("2 before 8", lovemudarn_validate_raw_str(TEXT("x\377"), 3), LOVEMUDARN_NOT_UTF8, 1, 0, 0, 0, 0, false, 0);
+}
+
+static void guarded(const char *what, struct lovemudarn_guarded_str_answer a, unsigned long number, unsigned long beside, unsigned long second,
+                    unsigned long n_hashes, bool terminated, unsigned long token_len) {
+    same(what, "number", a.number, number);
+    same(what, "beside", a.beside, beside);
+    same(what, "second", a.second, second);
+    same(what, "found", a.found, number == LOVEMUDARN_DONE && second == 1);
+    same(what, "n_hashes", a.n_hashes, n_hashes);
+    same(what, "terminated", a.terminated, terminated);
+    same(what, "token_len", a.token_len, token_len);
+    same(what, "next", a.next, number == LOVEMUDARN_DONE ? beside : 0);
+}
+
+static void test_guarded(void) {
+    guarded("a guarded string", lovemudarn_guarded(TEXT("##\"a\"x"), NONE, NONE, 0), LOVEMUDARN_DONE, 6, 1, 2, true, 6);
+    guarded("further on", lovemudarn_guarded(TEXT("x ##\"a\"#### y"), NONE, NONE, 2), LOVEMUDARN_DONE, 9, 1, 2, true, 7);
+    guarded("one that does not end", lovemudarn_guarded(TEXT("#\"a"), NONE, NONE, 0), LOVEMUDARN_DONE, 3, 1, 1, false, 3);
+    guarded("a suffix of a list", lovemudarn_guarded(TEXT("#\"a\"\303\251"), LIST(letters), NONE, 0), LOVEMUDARN_DONE, 6, 1, 1, true, 6);
+    guarded("none", lovemudarn_guarded(TEXT("##a"), NONE, NONE, 0), LOVEMUDARN_DONE, 2, 0, 0, false, 0);
+    guarded("none at the end", lovemudarn_guarded(TEXT("##"), NONE, NONE, 2), LOVEMUDARN_DONE, 2, 0, 0, false, 0);
+    guarded("past the end", lovemudarn_guarded(TEXT("##"), NONE, NONE, 3), LOVEMUDARN_BAD_POSITION, 3, 0, 0, false, 0);
+    guarded("inside a character", lovemudarn_guarded(TEXT("\303\251"), NONE, NONE, 1), LOVEMUDARN_BAD_POSITION, 1, 0, 0, false, 0);
+    guarded("2 before 4", lovemudarn_guarded(TEXT("#\377"), NONE, NONE, 9), LOVEMUDARN_NOT_UTF8, 1, 0, 0, false, 0);
+    guarded("a bad list", lovemudarn_guarded(TEXT("#\377"), NONE, LIST(half), 9), LOVEMUDARN_BAD_LIST, LOVEMUDARN_LIST_CONTINUES, 1, 0, false, 0);
+}
+
+static void test_classes(void) {
+    static const uint32_t spaces[11] = {0x09, 0x0A, 0x0B, 0x0C, 0x0D, 0x20, 0x85, 0x200E, 0x200F, 0x2028, 0x2029};
+    static const uint32_t others[8] = {0, 0x08, 0x41, 0xA0, 0x200D, 0x3000, 0xD800, 0xFFFFFFFF};
+    for (size_t i = 0; i < 11; i += 1) same("is_whitespace", "one of the 11", lovemudarn_is_whitespace(spaces[i]), true);
+    for (size_t i = 0; i < 8; i += 1) same("is_whitespace", "another", lovemudarn_is_whitespace(others[i]), false);
+    for (size_t i = 0; i < 11; i += 1)
+        same("is_horizontal_whitespace", "one of the 11", lovemudarn_is_horizontal_whitespace(spaces[i]), spaces[i] == 0x09 || spaces[i] == 0x20);
+    for (size_t i = 0; i < 8; i += 1) same("is_horizontal_whitespace", "another", lovemudarn_is_horizontal_whitespace(others[i]), false);
+
+    answer("is_id_start: z", lovemudarn_is_id_start('z', NONE), LOVEMUDARN_DONE, 1, 0);
+    answer("is_id_start: _", lovemudarn_is_id_start('_', NONE), LOVEMUDARN_DONE, 1, 0);
+    answer("is_id_start: 1", lovemudarn_is_id_start('1', NONE), LOVEMUDARN_DONE, 0, 0);
+    answer("is_id_start: listed", lovemudarn_is_id_start(0xE9, LIST(letters)), LOVEMUDARN_DONE, 1, 0);
+    answer("is_id_start: not listed", lovemudarn_is_id_start(0xEA, LIST(letters)), LOVEMUDARN_DONE, 0, 0);
+    answer("is_id_start: no scalar value", lovemudarn_is_id_start(0xD800, LIST(letters)), LOVEMUDARN_DONE, 0, 0);
+    answer("is_id_start: a bad list", lovemudarn_is_id_start('z', LIST(half)), LOVEMUDARN_BAD_LIST, LOVEMUDARN_LIST_STARTS, 1);
+    answer("is_id_continue: 1", lovemudarn_is_id_continue('1', NONE), LOVEMUDARN_DONE, 1, 0);
+    answer("is_id_continue: -", lovemudarn_is_id_continue('-', NONE), LOVEMUDARN_DONE, 0, 0);
+    answer("is_id_continue: listed", lovemudarn_is_id_continue(0xE9, LIST(letters)), LOVEMUDARN_DONE, 1, 0);
+    answer("is_id_continue: not listed", lovemudarn_is_id_continue(0xE9, NONE), LOVEMUDARN_DONE, 0, 0);
+    answer("is_id_continue: a bad list", lovemudarn_is_id_continue('1', LIST(low)), LOVEMUDARN_BAD_LIST, LOVEMUDARN_LIST_CONTINUES, 0);
+    answer("is_emoji_char: listed", lovemudarn_is_emoji_char(0x1F64F, LIST(faces)), LOVEMUDARN_DONE, 1, 0);
+    answer("is_emoji_char: not listed", lovemudarn_is_emoji_char(0x1F650, LIST(faces)), LOVEMUDARN_DONE, 0, 0);
+    answer("is_emoji_char: below 0x80", lovemudarn_is_emoji_char('#', LIST(faces)), LOVEMUDARN_DONE, 0, 0);
+    answer("is_emoji_char: a bad list", lovemudarn_is_emoji_char(0x1F64F, LIST(meeting)), LOVEMUDARN_BAD_LIST, LOVEMUDARN_LIST_EMOJI, 1);
+}
+
+/* A text that is one byte too long. Its first byte is ill-formed: 1 comes before 2, and no other byte is read, nor could be: there is no memory behind
+ * the first page. */
+static void test_too_long(void) {
+    size_t len = 4294967296;
+    uint8_t *text = mmap(0, len, 0, 0x4022, -1, 0);
+    same("a long text", "is there no room for it", text == (uint8_t *)-1, false);
+    if (text == (uint8_t *)-1) return;
+    same("a long text", "is its first page shut", mprotect(text, 4096, 3) != 0, false);
+    text[0] = 0xFF;
+    answer("check: too long", lovemudarn_check(text, len, LIST(low), NONE, NONE), LOVEMUDARN_TOO_LONG, 0, 0);
+    no_token("too long", lovemudarn_token(text, len, LIST(low), NONE, NONE, 0, false), LOVEMUDARN_TOO_LONG, 0, 0);
+    fill_run();
+    answer("tokens: too long", lovemudarn_tokens(text, len, LIST(low), NONE, NONE, false, run, 0), LOVEMUDARN_TOO_LONG, 0, 0);
+    answer("tokens: too long", lovemudarn_tokens(text, len, LIST(low), NONE, NONE, false, run, 48), LOVEMUDARN_TOO_LONG, 0, 0);
+    holds("tokens: too long", some, 0);
+    fill_out();
+    answer("key: too long", lovemudarn_key(text, len, LIST(low), NONE, NONE, out, 32), LOVEMUDARN_TOO_LONG, 0, 0);
+    key_holds("key: too long", "", 0);
+    answer("is_ident: too long", lovemudarn_is_ident(text, len, LIST(low), NONE), LOVEMUDARN_TOO_LONG, 0, 0);
+    answer("strip_shebang: too long", lovemudarn_strip_shebang(text, len), LOVEMUDARN_TOO_LONG, 0, 0);
+    raw("too long", lovemudarn_validate_raw_str(text, len, 3), LOVEMUDARN_TOO_LONG, 0, 0, 0, 0, 0, false, 0);
+    guarded("too long", lovemudarn_guarded(text, len, LIST(low), NONE, 0), LOVEMUDARN_TOO_LONG, 0, 0, 0, false, 0);
+}
+
+int main(void) {
+    test_too_long();
+    test_check();
+    test_token();
+    test_tokens();
+    test_key();
+    test_is_ident();
+    test_strip_shebang();
+    test_validate_raw_str();
+    test_guarded();
+    test_classes();
+    printf("%lu checks, %lu failed\n", checks, failed);
+    return failed != 0;
+}

@@ -1,0 +1,6 @@
+pub mod Answers
+pub mod Tokens
+pub mod RawStrs
+pub mod Guards
+pub mod Shebangs
+pub mod Buffers

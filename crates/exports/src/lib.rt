@@ -1,0 +1,387 @@
+// What C and other languages link: the calls over numbers and slices. bindings/c/lovemudarn.h declares the same for C.
+//
+// Every answer begins with three numbers: the refusal's number in document 01's table (0: done), and the two numbers beside it. A slice goes in as a
+// pointer and a count.
+ghost use mathlib.Core.Path.{_≡_};
+ghost use Rattle.classes.specs.Whitespace.{isWhitespace, isHorizontalWhitespace};
+ghost use Rattle.classes.specs.Answers.{answerNumbers, idStartAnswer, idContinueAnswer, emojiAnswer, identAnswer};
+ghost use Rattle.refusal.specs.Numbers.{verdictNumbers};
+ghost use Rattle.token.specs.Lists.{lent};
+ghost use Rattle.lexer.specs.Answers.{tokenVerdict, oneToken};
+ghost use Rattle.lexer.specs.RawChecks.{rawAnswer};
+ghost use Rattle.lexer.specs.Guards.{guardedAnswer};
+ghost use Rattle.exports.specs.Answers.{answerOf};
+ghost use Rattle.exports.specs.Tokens.{noToken, givenOut, tokenOut};
+ghost use Rattle.exports.specs.RawStrs.{rawOf, noEndOf, errorOf, checkOf, rawOut};
+ghost use Rattle.exports.specs.Guards.{noString, foundOf, guardedOut};
+ghost use Rattle.exports.specs.Shebangs.{StrippedOut};
+ghost use Rattle.exports.specs.Buffers.{TokensOut, KeyOut};
+use lexer::GuardedAnswer;
+use lexer::OneToken;
+use lexer::RawAnswer;
+use lexer::Scan;
+use refusal::Numbers;
+use token::Guarded;
+use token::Offset;
+use token::RawStr;
+use token::RawStrError;
+
+// An answer by number.
+#[repr(C)]
+pub struct Answer {
+    pub number: u32,
+    pub beside: usize,
+    pub second: usize,
+}
+
+// The one-token call's answer. Done: the position past the token and 1 where frontmatter is on there are beside the 0, and stand in `next` and `on`
+// too. Refused: every number past the third is 0.
+#[repr(C)]
+pub struct TokenAnswer {
+    pub number: u32,
+    pub beside: usize,
+    pub second: usize,
+    pub kind: u32,
+    pub suffix_start: u32,
+    pub len: u32,
+    pub start: usize,
+    pub next: usize,
+    pub on: bool,
+}
+
+// The raw check's answer. Done: the case is beside the 0, and stands in `check` too: 0 good, 1 no quote, 2 no end, 3 too many hashes; `second` has the
+// case's first number. A number that the case has not is 0, and so is every number past the third where the call is refused.
+#[repr(C)]
+pub struct RawStrAnswer {
+    pub number: u32,
+    pub beside: usize,
+    pub second: usize,
+    pub check: u32,
+    pub bad_char: u32,
+    pub expected: u32,
+    pub found: u32,
+    pub has_offset: bool,
+    pub offset: u32,
+}
+
+// The guarded string's answer. Done: the position where the cursor then stands and 1 where a string is found are beside the 0, and stand in `next` and
+// `found` too. Where none is found its numbers are 0. Refused: every number past the third is 0.
+#[repr(C)]
+pub struct GuardedStrAnswer {
+    pub number: u32,
+    pub beside: usize,
+    pub second: usize,
+    pub found: bool,
+    pub n_hashes: u32,
+    pub terminated: bool,
+    pub token_len: u32,
+    pub next: usize,
+}
+
+fn answer_of(n: Numbers) -> Answer
+    ensures { λ r. ⌜ r ≡ answerOf n ⌝ }
+{
+    Answer {
+        number: n.number,
+        beside: n.beside,
+        second: n.second,
+    }
+}
+
+// A refused token call.
+fn no_token(n: Numbers) -> TokenAnswer
+    ensures { λ r. ⌜ r ≡ noToken n ⌝ }
+{
+    TokenAnswer {
+        number: n.number,
+        beside: n.beside,
+        second: n.second,
+        kind: 0,
+        suffix_start: 0,
+        len: 0,
+        start: 0,
+        next: 0,
+        on: false,
+    }
+}
+
+// A token that is given, with its numbers.
+fn given_out(n: Numbers, scan: Scan) -> TokenAnswer
+    ensures { λ r. ⌜ r ≡ givenOut n scan ⌝ }
+{
+    let token = scan.token;
+    let kind = token.kind;
+    TokenAnswer {
+        number: n.number,
+        beside: n.beside,
+        second: n.second,
+        kind: codes::kind_code(kind),
+        suffix_start: codes::suffix_of(kind),
+        len: token.len,
+        start: token.start,
+        next: scan.next,
+        on: scan.on,
+    }
+}
+
+fn token_out(answer: OneToken) -> TokenAnswer
+    ensures { λ r. ⌜ r ≡ tokenOut answer ⌝ }
+{
+    let n = lexer::token_numbers(answer);
+    match answer {
+        OneToken::Given(scan) => given_out(n, scan),
+        OneToken::Position(_) => no_token(n),
+        OneToken::Refused(_) => no_token(n),
+    }
+}
+
+// The three numbers, and those of a case of the raw check.
+fn raw_of(
+    n: Numbers,
+    check: u32,
+    bad_char: u32,
+    expected: u32,
+    found: u32,
+    has_offset: bool,
+    offset: u32,
+) -> RawStrAnswer
+    ensures { λ r. ⌜ r ≡ rawOf n check «bad_char» expected found «has_offset» offset ⌝ }
+{
+    RawStrAnswer {
+        number: n.number,
+        beside: n.beside,
+        second: n.second,
+        check,
+        bad_char,
+        expected,
+        found,
+        has_offset,
+        offset,
+    }
+}
+
+fn no_end_of(n: Numbers, expected: u32, found: u32, offset: Offset) -> RawStrAnswer
+    ensures { λ r. ⌜ r ≡ noEndOf n expected found offset ⌝ }
+{
+    match offset {
+        Offset::At(place) => raw_of(n, 2, 0, expected, found, true, place),
+        Offset::Nowhere => raw_of(n, 2, 0, expected, found, false, 0),
+    }
+}
+
+fn error_of(n: Numbers, error: RawStrError) -> RawStrAnswer
+    ensures { λ r. ⌜ r ≡ errorOf n error ⌝ }
+{
+    match error {
+        RawStrError::InvalidStarter { bad_char } => raw_of(n, 1, bad_char, 0, 0, false, 0),
+        RawStrError::NoTerminator {
+            expected,
+            found,
+            possible_terminator_offset,
+        } => no_end_of(n, expected, found, possible_terminator_offset),
+        RawStrError::TooManyDelimiters { found } => raw_of(n, 3, 0, 0, found, false, 0),
+    }
+}
+
+fn check_of(n: Numbers, check: RawStr) -> RawStrAnswer
+    ensures { λ r. ⌜ r ≡ checkOf n check ⌝ }
+{
+    match check {
+        RawStr::Good => raw_of(n, 0, 0, 0, 0, false, 0),
+        RawStr::Bad(error) => error_of(n, error),
+    }
+}
+
+fn raw_out(answer: RawAnswer) -> RawStrAnswer
+    ensures { λ r. ⌜ r ≡ rawOut answer ⌝ }
+{
+    let n = lexer::raw_numbers(answer);
+    match answer {
+        RawAnswer::Checked(check) => check_of(n, check),
+        RawAnswer::Prefix => raw_of(n, 0, 0, 0, 0, false, 0),
+        RawAnswer::Refused(_) => raw_of(n, 0, 0, 0, 0, false, 0),
+    }
+}
+
+// The three numbers, and no string.
+fn no_string(n: Numbers, next: usize) -> GuardedStrAnswer
+    ensures { λ r. ⌜ r ≡ noString n next ⌝ }
+{
+    GuardedStrAnswer {
+        number: n.number,
+        beside: n.beside,
+        second: n.second,
+        found: false,
+        n_hashes: 0,
+        terminated: false,
+        token_len: 0,
+        next,
+    }
+}
+
+// What is found, and where the cursor then stands.
+fn found_of(n: Numbers, found: Guarded, next: usize) -> GuardedStrAnswer
+    ensures { λ r. ⌜ r ≡ foundOf n found next ⌝ }
+{
+    match found {
+        Guarded::Found(string) => GuardedStrAnswer {
+            number: n.number,
+            beside: n.beside,
+            second: n.second,
+            found: true,
+            n_hashes: string.n_hashes,
+            terminated: string.terminated,
+            token_len: string.token_len,
+            next,
+        },
+        Guarded::NotFound => no_string(n, next),
+    }
+}
+
+fn guarded_out(answer: GuardedAnswer) -> GuardedStrAnswer
+    ensures { λ r. ⌜ r ≡ guardedOut answer ⌝ }
+{
+    let n = lexer::guarded_numbers(answer);
+    match answer {
+        GuardedAnswer::Given(given) => {
+            let found = given.found;
+            found_of(n, found, given.next)
+        }
+        GuardedAnswer::Position(_) => no_string(n, 0),
+        GuardedAnswer::Refused(_) => no_string(n, 0),
+    }
+}
+
+// What the token calls check of a text and three lists: 1, 3, 2, or 0.
+#[no_mangle]
+pub extern "C" fn lovemudarn_check(
+    text: &[u8],
+    starts: &[u32],
+    continues: &[u32],
+    emoji: &[u32],
+) -> Answer
+    ensures { λ r. do ⌜ r ≡ answerOf (verdictNumbers (tokenVerdict (← ⟦lists::MAX_PAIRS⟧ .entry) (now (text .entry)) (lent (now (starts .entry)) (now (continues .entry)) (now (emoji .entry))))) ⌝ }
+{
+    answer_of(refusal::verdict_numbers(lexer::token_verdict(text, starts, continues, emoji)))
+}
+
+// The token at a position: 1, 3, 2, 4, or 0.
+#[no_mangle]
+pub extern "C" fn lovemudarn_token(
+    text: &[u8],
+    starts: &[u32],
+    continues: &[u32],
+    emoji: &[u32],
+    at: usize,
+    on: bool,
+) -> TokenAnswer
+    ensures { λ r. do ⌜ r ≡ tokenOut (oneToken (← ⟦lists::MAX_PAIRS⟧ .entry) (now (text .entry)) (lent (now (starts .entry)) (now (continues .entry)) (now (emoji .entry))) at on) ⌝ }
+{
+    token_out(lexer::advance_token(text, starts, continues, emoji, at, on))
+}
+
+// The tokens of a text, four numbers each: 1, 3, 2, 5 with the tokens needed, or 0 with the number of tokens. Only 0 writes.
+#[no_mangle]
+pub extern "C" fn lovemudarn_tokens(
+    text: &[u8],
+    starts: &[u32],
+    continues: &[u32],
+    emoji: &[u32],
+    on: bool,
+    slots: &mut [u32],
+) -> Answer
+    ensures { λ r. do ⌜ TokensOut (← ⟦lists::MAX_PAIRS⟧ .entry) (now (text .entry)) (lent (now (starts .entry)) (now (continues .entry)) (now (emoji .entry))) on (now (slots .entry)) (now (slots .exit)) r ⌝ }
+{
+    let answer = slots::tokens(text, starts, continues, emoji, on, slots);
+    answer_of(plan::list_numbers(answer))
+}
+
+// The key of a text: 1, 3, 2, 6 with the start of the first broken token, 7 with the bytes needed, or 0 with the key's bytes. Only 0 writes.
+#[no_mangle]
+pub extern "C" fn lovemudarn_key(
+    text: &[u8],
+    starts: &[u32],
+    continues: &[u32],
+    emoji: &[u32],
+    out: &mut [u8],
+) -> Answer
+    ensures { λ r. do ⌜ KeyOut (← ⟦lists::MAX_PAIRS⟧ .entry) (now (text .entry)) (lent (now (starts .entry)) (now (continues .entry)) (now (emoji .entry))) (now (out .entry)) (now (out .exit)) r ⌝ }
+{
+    let answer = key::key(text, starts, continues, emoji, out);
+    answer_of(key::key_numbers(answer))
+}
+
+// Whether a text is an identifier: 1, 3, 2, or 0 with 1 for yes and 0 for no.
+#[no_mangle]
+pub extern "C" fn lovemudarn_is_ident(text: &[u8], starts: &[u32], continues: &[u32]) -> Answer
+    ensures { λ r. do ⌜ r ≡ answerOf (answerNumbers (identAnswer (← ⟦lists::MAX_PAIRS⟧ .entry) (now (text .entry)) (now (starts .entry)) (now (continues .entry)))) ⌝ }
+{
+    answer_of(classes::answer_numbers(classes::is_ident(text, starts, continues)))
+}
+
+// Where a shebang ends: 1, 2, or 0 with the place, which is at least 2, or with 0 where there is none.
+#[no_mangle]
+pub extern "C" fn lovemudarn_strip_shebang(text: &[u8]) -> Answer
+    ensures { λ r. ⌜ StrippedOut (now (text .entry)) r ⌝ }
+{
+    let answer = lexer::strip_shebang(text);
+    answer_of(lexer::shebang_numbers(answer))
+}
+
+// The raw check of a literal with a prefix of so many bytes: 1, 2, 8, or 0 with what it says.
+#[no_mangle]
+pub extern "C" fn lovemudarn_validate_raw_str(text: &[u8], prefix: usize) -> RawStrAnswer
+    ensures { λ r. ⌜ r ≡ rawOut (rawAnswer (now (text .entry)) prefix) ⌝ }
+{
+    raw_out(lexer::validate_raw_str(text, prefix))
+}
+
+// The guarded string at a position: 1, 3, 2, 4, or 0 with what is found.
+#[no_mangle]
+pub extern "C" fn lovemudarn_guarded(
+    text: &[u8],
+    starts: &[u32],
+    continues: &[u32],
+    at: usize,
+) -> GuardedStrAnswer
+    ensures { λ r. do ⌜ r ≡ guardedOut (guardedAnswer (← ⟦lists::MAX_PAIRS⟧ .entry) (now (text .entry)) (now (starts .entry)) (now (continues .entry)) at) ⌝ }
+{
+    guarded_out(lexer::guarded_double_quoted_string(text, starts, continues, at))
+}
+
+// The classes take any number; one that is no Unicode scalar value is in no class.
+#[no_mangle]
+pub extern "C" fn lovemudarn_is_whitespace(c: u32) -> bool
+    ensures { λ r. ⌜ r ≡ isWhitespace c ⌝ }
+{
+    classes::is_whitespace(c)
+}
+
+#[no_mangle]
+pub extern "C" fn lovemudarn_is_horizontal_whitespace(c: u32) -> bool
+    ensures { λ r. ⌜ r ≡ isHorizontalWhitespace c ⌝ }
+{
+    classes::is_horizontal_whitespace(c)
+}
+
+// The classes of a list: 3, or 0 with 1 for yes and 0 for no.
+#[no_mangle]
+pub extern "C" fn lovemudarn_is_id_start(c: u32, starts: &[u32]) -> Answer
+    ensures { λ r. do ⌜ r ≡ answerOf (answerNumbers (idStartAnswer (← ⟦lists::MAX_PAIRS⟧ .entry) (now (starts .entry)) c)) ⌝ }
+{
+    answer_of(classes::answer_numbers(classes::is_id_start(c, starts)))
+}
+
+#[no_mangle]
+pub extern "C" fn lovemudarn_is_id_continue(c: u32, continues: &[u32]) -> Answer
+    ensures { λ r. do ⌜ r ≡ answerOf (answerNumbers (idContinueAnswer (← ⟦lists::MAX_PAIRS⟧ .entry) (now (continues .entry)) c)) ⌝ }
+{
+    answer_of(classes::answer_numbers(classes::is_id_continue(c, continues)))
+}
+
+#[no_mangle]
+pub extern "C" fn lovemudarn_is_emoji_char(c: u32, emoji: &[u32]) -> Answer
+    ensures { λ r. do ⌜ r ≡ answerOf (answerNumbers (emojiAnswer (← ⟦lists::MAX_PAIRS⟧ .entry) (now (emoji .entry)) c)) ⌝ }
+{
+    answer_of(classes::answer_numbers(classes::is_emoji_char(c, emoji)))
+}

@@ -1,0 +1,4 @@
+pub mod Fours
+pub mod Fillings
+pub mod Calls
+pub mod Answers

@@ -1,0 +1,30 @@
+-- What writing the numbers of tokens asks, and what it does.
+use Prim.Native.Nat.{ℕ, _+_, _*_, _≤_}
+use mathlib.Core.Path.{_≡_}
+use mathlib.Core.Bool.{Bool}
+use mathlib.Core.List.{List, _++_}
+use lib.ListN.{length, drop}
+use Rattle.text.specs.Chars.{WellFormed}
+use Rattle.lists.specs.Rules.{Good}
+use Rattle.token.specs.declared.Token.{Token}
+use Rattle.token.specs.Lists.{Lists}
+use Rattle.token.specs.Tokens.{records}
+use Rattle.slots.specs.Numbers.{numbersOf}
+
+-- there is room at n for four numbers, and the start is one of them
+pub record Fitting (slots : List ℕ) (n : ℕ) (t : Token) : Type 0 where
+  pub room : n + 4 ≤ length slots
+  pub narrow : t .start ≤ 4294967295
+
+-- the text and the lists were checked, and there is room for every token
+pub record Filling (L : Lists) (s : List ℕ) (on : Bool) (slots : List ℕ) : Type 0 where
+  pub well : WellFormed s
+  pub fits : length s ≤ 4294967295
+  pub starts : Good (L .starts)
+  pub continues : Good (L .continues)
+  pub emoji : Good (L .emoji)
+  pub room : 4 * length (records L on s) ≤ length slots
+
+-- the numbers of the tokens are in the first slots, and the rest is as it was
+abbrev pub Filled : Lists → (s : List ℕ) (on : Bool) (before after : List ℕ) → Type 0
+Filled L s on before after = after ≡ numbersOf (records L on s) ++ drop (4 * length (records L on s)) before
