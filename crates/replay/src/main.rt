@@ -168,6 +168,7 @@ fn answer(
         12 => replies::raw_check(input, out),
         13 => replies::guarded_string(input, starts, continues, out),
         14 => replies::tokens_once(input, starts, continues, emoji, out),
+        15 => listings::listed(input, starts, continues, emoji, out),
         16 => listings::slots(input, starts, continues, emoji, out),
         17 => keyings::keyed(input, starts, continues, emoji, out),
         _ => 0,
@@ -191,24 +192,6 @@ fn broken(t: Tally) -> Tally
     }
 }
 
-// The same of the list call, whose records are compared one by one.
-fn list_agrees(
-    s: &[u8],
-    input: Span,
-    stored: Span,
-    starts: &[u32],
-    continues: &[u32],
-    emoji: &[u32],
-) -> bool
-    requires { ⌜ Within (length (now s)) input × Within (length (now s)) stored ⌝ }
-{
-    let a = input.from;
-    let b = input.to;
-    let c = stored.from;
-    let d = stored.to;
-    listings::list_agrees(&s[a..b], &s[c..d], starts, continues, emoji)
-}
-
 // Whether the answer of an operation on a part of a file is the answer that stands in another part.
 fn agrees(
     s: &[u8],
@@ -222,9 +205,6 @@ fn agrees(
 ) -> bool
     requires { ⌜ Within (length (now s)) input × Within (length (now s)) stored ⌝ }
 {
-    if operation == 15 {
-        return list_agrees(s, input, stored, starts, continues, emoji);
-    }
     let a = input.from;
     let b = input.to;
     let c = stored.from;

@@ -5,12 +5,6 @@ use borrow.Author.Needs.{needs}
 use Rattle.replay.proofs.agrees.Statement.{statement}
 use Rattle.replay.proofs.agrees.Tie as tie
 
-list-agrees-requires : tie.Need-list-agrees-requires
-list-agrees-requires c κs = search needs
-
-returns : tie.Need-returns
-returns c = search needs
-
 sub-answer : tie.Need-sub-answer
 sub-answer c = search needs
 
@@ -44,15 +38,13 @@ same-requires c κs = search needs
 same-length : tie.Need-same-length
 same-length c = search needs
 
-returns-2 : tie.Need-returns-2
-returns-2 c = search needs
+returns : tie.Need-returns
+returns c = search needs
 
 pub agrees-spec : {M : Type 1} → statement M
 agrees-spec =
     tie.close
     (tie.spec
-    list-agrees-requires
-    returns
     sub-answer
     part-answer-start
     part-answer-end
@@ -64,4 +56,4 @@ agrees-spec =
     part-same-end
     same-requires
     same-length
-    returns-2)
+    returns)
