@@ -1,0 +1,367 @@
+//! A lexer for Rust source, and a key that stays the same where only blanks and plain comments
+//! change.
+//!
+//! The work is done by the archive of the proved library (`libexports.a`); this crate lends it
+//! slices and turns its numbers into Rust types. The types and calls have the names of rustc's own
+//! lexer, which the library carries over.
+//!
+//! ```
+//! use lovemudarn::{FrontmatterAllowed, Lists, TokenKind, key, tokenize};
+//!
+//! let tokens = tokenize("a+1", FrontmatterAllowed::No, &Lists::EMPTY)?;
+//! assert_eq!(tokens.len(), 3);
+//! assert_eq!(tokens[1].kind, TokenKind::Plus);
+//!
+//! let old = key("let limit = 5; // ppm\n", &Lists::EMPTY)?;
+//! let new = key("let limit = 5;   /* ppm, measured twice */", &Lists::EMPTY)?;
+//! assert_eq!(old, new);
+//! # Ok::<(), lovemudarn::Refusal>(())
+//! ```
+//!
+//! No call panics, whatever the text, the lists and the numbers are: what has no answer is refused by
+//! a [`Refusal`]. Texts are bytes (`&str`, `&[u8]`, ..), and a text that is not UTF-8 is refused.
+
+#![deny(missing_docs)]
+#![deny(unsafe_op_in_unsafe_fn)]
+
+mod kinds;
+mod raw;
+mod refusal;
+
+pub use kinds::{
+    Base, DocStyle, FrontmatterAllowed, GuardedStr, LiteralKind, RawStrError, Token, TokenKind,
+};
+pub use refusal::{ListName, Refusal};
+
+// Every unsafe block below is one call of the archive, for the same reason: each pointer with its
+// count is one slice that is borrowed as long as the call runs, shared where it goes in as `*const` and
+// unique where it goes in as `*mut`, and a slice's pointer is never null. The archive reads and writes
+// inside these slices alone and keeps no pointer: that is proved of every function in it.
+
+/// The three lists of code points that are lent to the calls, in place of Unicode's tables.
+///
+/// A list is pairs of low and high code point, both included, as numbers in turn. The rules: at most
+/// 2,048 pairs; an even count of numbers; low ≤ high ≤ 0x10FFFF; low ≥ 0x80; each low above the
+/// previous high; no pair covers a surrogate, U+0085, U+200E, U+200F, U+2028 or U+2029. A list that
+/// breaks one is refused ([`Refusal::List`]). Below 0x80 the lists do not count.
+#[derive(Clone, Copy, Debug, Default, PartialEq, Eq)]
+pub struct Lists<'a> {
+    /// What may begin an identifier.
+    pub id_start: &'a [u32],
+    /// What may go on in one.
+    pub id_continue: &'a [u32],
+    /// What is emoji.
+    pub emoji: &'a [u32],
+}
+
+impl Lists<'static> {
+    /// No list: identifiers are of ASCII.
+    pub const EMPTY: Lists<'static> = Lists { id_start: &[], id_continue: &[], emoji: &[] };
+}
+
+/// A token, and how to go on.
+#[derive(Clone, Copy, Debug, PartialEq, Eq, Hash)]
+pub struct Advanced {
+    /// The token; [`TokenKind::Eof`] of length 0 at the end of the text.
+    pub token: Token,
+    /// The position past it.
+    pub next: usize,
+    /// Whether the token there may be frontmatter.
+    pub frontmatter: FrontmatterAllowed,
+}
+
+/// The numbers of a token in the buffer of [`tokenize_into`]: [`TokenKind::code`], the start of a
+/// suffix (0 but for literals), length, start.
+pub type Record = [u32; 4];
+
+/// The tokens of a text in order, without [`TokenKind::Eof`].
+///
+/// Refused are 1, 3 and 2.
+pub fn tokenize(
+    text: impl AsRef<[u8]>,
+    frontmatter: FrontmatterAllowed,
+    lists: &Lists,
+) -> Result<Vec<Token>, Refusal> {
+    let text = text.as_ref();
+    // A guess, as sources are; where it is too low, the refusal tells how many tokens there are.
+    let mut records: Vec<Record> = vec![[0; 4]; text.len() / 3 + 16];
+    let count = match tokenize_into(text, frontmatter, lists, &mut records) {
+        Err(Refusal::Slots { needed }) => {
+            records = vec![[0; 4]; needed];
+            tokenize_into(text, frontmatter, lists, &mut records)?
+        }
+        other => other?,
+    };
+    records.truncate(count);
+    records.into_iter().map(token_of).collect()
+}
+
+/// Writes the tokens of a text into a buffer, a record each, and gives their number. Records past
+/// it keep their values. [`token_of`] reads a record.
+///
+/// Refused are 1, 3, 2, and 5 with the number of tokens; then nothing is written.
+pub fn tokenize_into(
+    text: impl AsRef<[u8]>,
+    frontmatter: FrontmatterAllowed,
+    lists: &Lists,
+    records: &mut [Record],
+) -> Result<usize, Refusal> {
+    let text = text.as_ref();
+    let slots = records.as_flattened_mut();
+    // SAFETY: slices borrowed for the call, `slots` uniquely; see the head of this file.
+    let answer = unsafe {
+        raw::lovemudarn_tokens(
+            text.as_ptr(),
+            text.len(),
+            lists.id_start.as_ptr(),
+            lists.id_start.len(),
+            lists.id_continue.as_ptr(),
+            lists.id_continue.len(),
+            lists.emoji.as_ptr(),
+            lists.emoji.len(),
+            frontmatter == FrontmatterAllowed::Yes,
+            slots.as_mut_ptr(),
+            slots.len(),
+        )
+    };
+    done(answer)
+}
+
+/// The token of a record that [`tokenize_into`] wrote; [`Refusal::Unknown`] for numbers that are no
+/// kind's.
+pub fn token_of(record: Record) -> Result<Token, Refusal> {
+    let [code, suffix_start, len, start] = record;
+    // A place in a text that is in memory: it fits.
+    let start = start as usize;
+    Ok(Token { kind: kind_of(code, suffix_start)?, len, start })
+}
+
+/// The token at a position, with frontmatter allowed there or not.
+///
+/// Refused are 1, 3, 2, and 4 where the position is past the end or inside a character. Each call
+/// checks the whole text: for all tokens of a text use [`tokenize`].
+pub fn advance_token(
+    text: impl AsRef<[u8]>,
+    lists: &Lists,
+    at: usize,
+    frontmatter: FrontmatterAllowed,
+) -> Result<Advanced, Refusal> {
+    let text = text.as_ref();
+    // SAFETY: slices borrowed for the call; see the head of this file.
+    let answer = unsafe {
+        raw::lovemudarn_token(
+            text.as_ptr(),
+            text.len(),
+            lists.id_start.as_ptr(),
+            lists.id_start.len(),
+            lists.id_continue.as_ptr(),
+            lists.id_continue.len(),
+            lists.emoji.as_ptr(),
+            lists.emoji.len(),
+            at,
+            frontmatter == FrontmatterAllowed::Yes,
+        )
+    };
+    refused(answer.number, answer.beside, answer.second)?;
+    let kind = kind_of(answer.kind, answer.suffix_start)?;
+    Ok(Advanced {
+        token: Token { kind, len: answer.len, start: answer.start },
+        next: answer.next,
+        frontmatter: if answer.on { FrontmatterAllowed::Yes } else { FrontmatterAllowed::No },
+    })
+}
+
+/// The key of a text: its tokens byte for byte, but for whitespace and comments that document
+/// nothing; each longest run of these becomes one newline. Frontmatter is off.
+///
+/// Two texts have the same key exactly if their other tokens are the same, in the same order and
+/// parted at the same places. Refused are 1, 3, 2, and 6 where a literal or a block comment is broken.
+pub fn key(text: impl AsRef<[u8]>, lists: &Lists) -> Result<Vec<u8>, Refusal> {
+    let text = text.as_ref();
+    // A key is never longer than its text.
+    let mut out = vec![0; text.len()];
+    let bytes = key_into(text, lists, &mut out)?;
+    out.truncate(bytes);
+    Ok(out)
+}
+
+/// Writes the [`key`] of a text into a buffer and gives its bytes. Bytes past it keep their values.
+///
+/// Refused are 1, 3, 2, 6, and 7 with the bytes of the key; then nothing is written.
+pub fn key_into(text: impl AsRef<[u8]>, lists: &Lists, out: &mut [u8]) -> Result<usize, Refusal> {
+    let text = text.as_ref();
+    // SAFETY: slices borrowed for the call, `out` uniquely; see the head of this file.
+    let answer = unsafe {
+        raw::lovemudarn_key(
+            text.as_ptr(),
+            text.len(),
+            lists.id_start.as_ptr(),
+            lists.id_start.len(),
+            lists.id_continue.as_ptr(),
+            lists.id_continue.len(),
+            lists.emoji.as_ptr(),
+            lists.emoji.len(),
+            out.as_mut_ptr(),
+            out.len(),
+        )
+    };
+    done(answer)
+}
+
+/// The checks that [`tokenize`] begins with: 1, 3 and 2.
+pub fn check(text: impl AsRef<[u8]>, lists: &Lists) -> Result<(), Refusal> {
+    let text = text.as_ref();
+    // SAFETY: slices borrowed for the call; see the head of this file.
+    let answer = unsafe {
+        raw::lovemudarn_check(
+            text.as_ptr(),
+            text.len(),
+            lists.id_start.as_ptr(),
+            lists.id_start.len(),
+            lists.id_continue.as_ptr(),
+            lists.id_continue.len(),
+            lists.emoji.as_ptr(),
+            lists.emoji.len(),
+        )
+    };
+    done(answer).map(|_| ())
+}
+
+/// Where the shebang of a text ends, before the end of its line; `None` where it has none.
+///
+/// Refused are 1 and 2. It needs no list.
+pub fn strip_shebang(text: impl AsRef<[u8]>) -> Result<Option<usize>, Refusal> {
+    let text = text.as_ref();
+    // SAFETY: a slice borrowed for the call; see the head of this file.
+    let answer = unsafe { raw::lovemudarn_strip_shebang(text.as_ptr(), text.len()) };
+    // A shebang has two bytes at least: 0 says that there is none.
+    done(answer).map(|end| (end != 0).then_some(end))
+}
+
+/// What is wrong with a raw string behind a prefix of so many bytes, or `Ok(Ok(()))`.
+///
+/// Refused are 1, 2, and 8 where the text does not begin with such a prefix.
+pub fn validate_raw_str(
+    text: impl AsRef<[u8]>,
+    prefix_len: usize,
+) -> Result<Result<(), RawStrError>, Refusal> {
+    let text = text.as_ref();
+    // SAFETY: a slice borrowed for the call; see the head of this file.
+    let answer = unsafe { raw::lovemudarn_validate_raw_str(text.as_ptr(), text.len(), prefix_len) };
+    refused(answer.number, answer.beside, answer.second)?;
+    let unknown = Refusal::Unknown { number: 0, beside: answer.beside, second: answer.second };
+    let error = match answer.check {
+        0 => return Ok(Ok(())),
+        1 => RawStrError::InvalidStarter {
+            bad_char: char::from_u32(answer.bad_char).ok_or(unknown)?,
+        },
+        2 => RawStrError::NoTerminator {
+            expected: answer.expected,
+            found: answer.found,
+            possible_terminator_offset: answer.has_offset.then_some(answer.offset),
+        },
+        3 => RawStrError::TooManyDelimiters { found: answer.found },
+        _ => return Err(unknown),
+    };
+    Ok(Err(error))
+}
+
+/// The guarded string at a position, if there is one, and where the search ended: past the string, or
+/// after the hashes.
+///
+/// Refused are 1, 3, 2, and 4 where the position is past the end or inside a character.
+pub fn guarded_double_quoted_string(
+    text: impl AsRef<[u8]>,
+    lists: &Lists,
+    at: usize,
+) -> Result<(Option<GuardedStr>, usize), Refusal> {
+    let text = text.as_ref();
+    // SAFETY: slices borrowed for the call; see the head of this file.
+    let answer = unsafe {
+        raw::lovemudarn_guarded(
+            text.as_ptr(),
+            text.len(),
+            lists.id_start.as_ptr(),
+            lists.id_start.len(),
+            lists.id_continue.as_ptr(),
+            lists.id_continue.len(),
+            at,
+        )
+    };
+    refused(answer.number, answer.beside, answer.second)?;
+    let found = answer.found.then_some(GuardedStr {
+        n_hashes: answer.n_hashes,
+        terminated: answer.terminated,
+        token_len: answer.token_len,
+    });
+    Ok((found, answer.next))
+}
+
+/// Whether a text is an identifier; the empty one is none.
+///
+/// Refused are 1, 3 (the lists of identifiers) and 2.
+pub fn is_ident(text: impl AsRef<[u8]>, lists: &Lists) -> Result<bool, Refusal> {
+    let text = text.as_ref();
+    // SAFETY: slices borrowed for the call; see the head of this file.
+    let answer = unsafe {
+        raw::lovemudarn_is_ident(
+            text.as_ptr(),
+            text.len(),
+            lists.id_start.as_ptr(),
+            lists.id_start.len(),
+            lists.id_continue.as_ptr(),
+            lists.id_continue.len(),
+        )
+    };
+    yes_or_no(answer)
+}
+
+/// Whether a character is whitespace to Rust: one of 11.
+pub fn is_whitespace(c: char) -> bool {
+    raw::lovemudarn_is_whitespace(c.into())
+}
+
+/// Whether a character is a tab or a space.
+pub fn is_horizontal_whitespace(c: char) -> bool {
+    raw::lovemudarn_is_horizontal_whitespace(c.into())
+}
+
+/// Whether a character may begin an identifier. Refused is 3 (the list `id_start`).
+pub fn is_id_start(c: char, lists: &Lists) -> Result<bool, Refusal> {
+    let list = lists.id_start;
+    // SAFETY: a slice borrowed for the call; see the head of this file.
+    yes_or_no(unsafe { raw::lovemudarn_is_id_start(c.into(), list.as_ptr(), list.len()) })
+}
+
+/// Whether a character may go on in an identifier. Refused is 3 (the list `id_continue`).
+pub fn is_id_continue(c: char, lists: &Lists) -> Result<bool, Refusal> {
+    let list = lists.id_continue;
+    // SAFETY: a slice borrowed for the call; see the head of this file.
+    yes_or_no(unsafe { raw::lovemudarn_is_id_continue(c.into(), list.as_ptr(), list.len()) })
+}
+
+/// Whether a character is emoji; none of ASCII is. Refused is 3 (the list `emoji`).
+pub fn is_emoji_char(c: char, lists: &Lists) -> Result<bool, Refusal> {
+    let list = lists.emoji;
+    // SAFETY: a slice borrowed for the call; see the head of this file.
+    yes_or_no(unsafe { raw::lovemudarn_is_emoji_char(c.into(), list.as_ptr(), list.len()) })
+}
+
+fn refused(number: u32, beside: usize, second: usize) -> Result<(), Refusal> {
+    if number == 0 { Ok(()) } else { Err(Refusal::of(number, beside, second)) }
+}
+
+// The number beside 0.
+fn done(answer: raw::Answer) -> Result<usize, Refusal> {
+    refused(answer.number, answer.beside, answer.second).map(|()| answer.beside)
+}
+
+fn yes_or_no(answer: raw::Answer) -> Result<bool, Refusal> {
+    done(answer).map(|beside| beside != 0)
+}
+
+fn kind_of(code: u32, suffix_start: u32) -> Result<TokenKind, Refusal> {
+    let unknown =
+        Refusal::Unknown { number: 0, beside: code as usize, second: suffix_start as usize };
+    TokenKind::from_code(code, suffix_start).ok_or(unknown)
+}

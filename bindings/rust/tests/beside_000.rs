@@ -1,0 +1,428 @@
+//! Every call beside rustc's own lexer, on texts of fragments, on random characters and on damaged
+//! bytes. tools/test-rust builds that lexer where its source is at hand, and sets `beside_000`.
+//!
+//! LOVEMUDARN_TEXTS is the number of texts, LOVEMUDARN_SEED another seed.
+
+#![cfg(beside_000)]
+
+use std::env;
+use std::ops::RangeInclusive;
+
+use lovemudarn::{
+    Base, DocStyle, FrontmatterAllowed, GuardedStr, Lists, LiteralKind, RawStrError, Refusal,
+    Token, TokenKind,
+};
+
+// ---- what rustc's lexer says, in the types of this crate ----
+
+fn doc(style: Option<rustc_lexer::DocStyle>) -> Option<DocStyle> {
+    style.map(|style| match style {
+        rustc_lexer::DocStyle::Outer => DocStyle::Outer,
+        rustc_lexer::DocStyle::Inner => DocStyle::Inner,
+    })
+}
+
+fn base(base: rustc_lexer::Base) -> Base {
+    match base {
+        rustc_lexer::Base::Binary => Base::Binary,
+        rustc_lexer::Base::Octal => Base::Octal,
+        rustc_lexer::Base::Decimal => Base::Decimal,
+        rustc_lexer::Base::Hexadecimal => Base::Hexadecimal,
+    }
+}
+
+fn literal(kind: rustc_lexer::LiteralKind) -> LiteralKind {
+    use rustc_lexer::LiteralKind as Theirs;
+    match kind {
+        Theirs::Int { base: b, empty_int } => LiteralKind::Int { base: base(b), empty_int },
+        Theirs::Float { base: b, empty_exponent } => {
+            LiteralKind::Float { base: base(b), empty_exponent }
+        }
+        Theirs::Char { terminated } => LiteralKind::Char { terminated },
+        Theirs::Byte { terminated } => LiteralKind::Byte { terminated },
+        Theirs::Str { terminated } => LiteralKind::Str { terminated },
+        Theirs::ByteStr { terminated } => LiteralKind::ByteStr { terminated },
+        Theirs::CStr { terminated } => LiteralKind::CStr { terminated },
+        Theirs::RawStr { n_hashes } => LiteralKind::RawStr { n_hashes },
+        Theirs::RawByteStr { n_hashes } => LiteralKind::RawByteStr { n_hashes },
+        Theirs::RawCStr { n_hashes } => LiteralKind::RawCStr { n_hashes },
+    }
+}
+
+fn kind(kind: rustc_lexer::TokenKind) -> TokenKind {
+    use rustc_lexer::TokenKind as Theirs;
+    match kind {
+        Theirs::LineComment { doc_style } => TokenKind::LineComment { doc_style: doc(doc_style) },
+        Theirs::BlockComment { doc_style, terminated } => {
+            TokenKind::BlockComment { doc_style: doc(doc_style), terminated }
+        }
+        Theirs::Frontmatter { has_invalid_preceding_whitespace, invalid_infostring } => {
+            TokenKind::Frontmatter { has_invalid_preceding_whitespace, invalid_infostring }
+        }
+        Theirs::Literal { kind, suffix_start } => {
+            TokenKind::Literal { kind: literal(kind), suffix_start }
+        }
+        Theirs::Lifetime { starts_with_number } => TokenKind::Lifetime { starts_with_number },
+        Theirs::Whitespace => TokenKind::Whitespace,
+        Theirs::Ident => TokenKind::Ident,
+        Theirs::InvalidIdent => TokenKind::InvalidIdent,
+        Theirs::RawIdent => TokenKind::RawIdent,
+        Theirs::ForcedKeywordIdent => TokenKind::ForcedKeywordIdent,
+        Theirs::UnknownPrefix => TokenKind::UnknownPrefix,
+        Theirs::UnknownPrefixLifetime => TokenKind::UnknownPrefixLifetime,
+        Theirs::RawLifetime => TokenKind::RawLifetime,
+        Theirs::GuardedStrPrefix => TokenKind::GuardedStrPrefix,
+        Theirs::Semi => TokenKind::Semi,
+        Theirs::Comma => TokenKind::Comma,
+        Theirs::Dot => TokenKind::Dot,
+        Theirs::OpenParen => TokenKind::OpenParen,
+        Theirs::CloseParen => TokenKind::CloseParen,
+        Theirs::OpenBrace => TokenKind::OpenBrace,
+        Theirs::CloseBrace => TokenKind::CloseBrace,
+        Theirs::OpenBracket => TokenKind::OpenBracket,
+        Theirs::CloseBracket => TokenKind::CloseBracket,
+        Theirs::At => TokenKind::At,
+        Theirs::Pound => TokenKind::Pound,
+        Theirs::Tilde => TokenKind::Tilde,
+        Theirs::Question => TokenKind::Question,
+        Theirs::Colon => TokenKind::Colon,
+        Theirs::Dollar => TokenKind::Dollar,
+        Theirs::Eq => TokenKind::Eq,
+        Theirs::Bang => TokenKind::Bang,
+        Theirs::Lt => TokenKind::Lt,
+        Theirs::Gt => TokenKind::Gt,
+        Theirs::Minus => TokenKind::Minus,
+        Theirs::And => TokenKind::And,
+        Theirs::Or => TokenKind::Or,
+        Theirs::Plus => TokenKind::Plus,
+        Theirs::Star => TokenKind::Star,
+        Theirs::Slash => TokenKind::Slash,
+        Theirs::Caret => TokenKind::Caret,
+        Theirs::Percent => TokenKind::Percent,
+        Theirs::Unknown => TokenKind::Unknown,
+        Theirs::Eof => TokenKind::Eof,
+    }
+}
+
+fn allowed(frontmatter: FrontmatterAllowed) -> rustc_lexer::FrontmatterAllowed {
+    match frontmatter {
+        FrontmatterAllowed::Yes => rustc_lexer::FrontmatterAllowed::Yes,
+        FrontmatterAllowed::No => rustc_lexer::FrontmatterAllowed::No,
+    }
+}
+
+fn their_tokens(text: &str, frontmatter: FrontmatterAllowed) -> Vec<Token> {
+    let mut start = 0;
+    rustc_lexer::tokenize(text, allowed(frontmatter))
+        .map(|token| {
+            let token = Token { kind: kind(token.kind), len: token.len, start };
+            start += token.len as usize;
+            token
+        })
+        .collect()
+}
+
+/// The key by the scope paper's words, over their tokens.
+fn their_key(text: &str) -> Result<Vec<u8>, Refusal> {
+    let tokens = their_tokens(text, FrontmatterAllowed::No);
+    if let Some(token) = tokens.iter().find(|token| token.kind.is_broken()) {
+        return Err(Refusal::Broken { at: token.start });
+    }
+    let mut out = Vec::new();
+    let mut gap = false;
+    for token in tokens {
+        let trivia = token.kind.is_trivia();
+        if !trivia {
+            out.extend(&text.as_bytes()[token.start..token.start + token.len as usize]);
+        } else if !gap {
+            out.push(b'\n');
+        }
+        gap = trivia;
+    }
+    Ok(out)
+}
+
+// ---- texts ----
+
+/// A fixed run of pseudo-random numbers.
+struct Chance(u64);
+
+impl Chance {
+    fn below(&mut self, limit: usize) -> usize {
+        self.0 = self.0.wrapping_mul(6364136223846793005).wrapping_add(1442695040888963407);
+        (self.0 >> 33) as usize % limit
+    }
+
+    fn pick<T: Copy>(&mut self, items: &[T]) -> T {
+        items[self.below(items.len())]
+    }
+}
+
+#[rustfmt::skip]
+const PIECES: &[&str] = &[
+    // blanks and comments
+    " ", "\n", "\t", "\r\n", "\r", "\u{85}", "\u{200e}", "\u{2028}", "\u{b}", "//", "///", "//!", "////", "/*",
+    "*/", "/**", "/*!", "/***", "/**/", "/", "*", "!", "// a\n", "/// b\n", "/* c */", "/** d */", "/*! e */", "/*/",
+    // words
+    "a", "r", "b", "c", "k", "br", "cr", "rb", "e", "E", "_", "x", "fn", "é", "日本", "ß", "r#a", "k#fn", "'a", "'r#a",
+    "\u{301}", "\u{200d}", "😀", "👩\u{200d}💻", "№", "\u{feff}", "\0",
+    // quotes
+    "'", "\"", "\\", "\\\\", "\\\"", "\\'", "#", "##", "###", "'a'", "'\\n'", "'''", "\"a\"", "b'a'", "b\"a\"",
+    "c\"a\"", "r\"a\"", "r#\"a\"#", "br##\"a\"##", "cr#\"", "\"#", "\"##", "~",
+    // numbers
+    "0", "1", "2", "9", "0b", "0o", "0x", "0b1", "0x1e3", "1.", "1.5", "1e3", "1e", "1e+", "1E-", "12_u8", ".", "..",
+    "-", "+",
+    // marks
+    ";", ",", "(", ")", "{", "}", "[", "]", "@", "?", ":", "$", "=", "<", ">", "&", "|", "^", "%",
+    // frontmatter and shebang
+    "---", "----", "--", "---\n", "\n---", "\n----", "--- a\n", "\nuse ", "\n//!", "\n#![", "use ", "#!", "#![a]",
+    "---a-b.c", " ---",
+];
+
+#[rustfmt::skip]
+const RANGES: &[RangeInclusive<u32>] = &[
+    0..=0x7F, 0x20..=0x7E, 0x80..=0x3FF, 0x2000..=0x206F, 0x3040..=0x30FF, 0x1F300..=0x1F6FF, 0..=0x10FFFF,
+];
+
+fn fragments(chance: &mut Chance) -> String {
+    (0..1 + chance.below(14)).map(|_| chance.pick(PIECES)).collect()
+}
+
+fn characters(chance: &mut Chance) -> String {
+    let range = &RANGES[chance.below(RANGES.len())];
+    let span = (range.end() - range.start() + 1) as usize;
+    (0..1 + chance.below(12))
+        .filter_map(|_| char::from_u32(range.start() + chance.below(span) as u32))
+        .collect()
+}
+
+/// A raw string, mostly one with a wrong end.
+fn raw_string(chance: &mut Chance) -> String {
+    let mut text = chance.pick(&["r", "br", "cr", "r#", "br#", "cr#", "r##", "r###"]).to_string();
+    text.push_str(chance.pick(&["\"", "\"", "\"", "#", "a", ""]));
+    text.extend(
+        (0..chance.below(12)).map(|_| chance.pick(&["\"", "\"", "#", "#", "##", "a", "é"])),
+    );
+    text
+}
+
+fn any_text(chance: &mut Chance) -> String {
+    match chance.below(16) {
+        0..4 => characters(chance),
+        4 | 5 => raw_string(chance),
+        6 => format!("#!{}", fragments(chance)),
+        7 => format!("---{}", fragments(chance)),
+        _ => fragments(chance),
+    }
+}
+
+// ---- lists ----
+
+/// The pairs of what belongs to a class, but for what no list may hold.
+fn pairs(member: impl Fn(char) -> bool) -> Vec<u32> {
+    let mut list: Vec<u32> = Vec::new();
+    for c in '\u{80}'..=char::MAX {
+        if !member(c) || rustc_lexer::is_whitespace(c) {
+            continue;
+        }
+        let point = u32::from(c);
+        match list.last_mut() {
+            Some(high) if *high + 1 == point => *high = point,
+            _ => list.extend([point, point]),
+        }
+    }
+    list
+}
+
+struct Owned([Vec<u32>; 3]);
+
+impl Owned {
+    /// The same lists for both sides.
+    fn lend(&self) -> Lists<'_> {
+        let theirs = |list: &[u32]| list.chunks(2).map(|pair| (pair[0], pair[1])).collect();
+        unicode_ident::lend_start(theirs(&self.0[0]));
+        unicode_ident::lend_continue(theirs(&self.0[1]));
+        unicode_properties::lend_emoji(theirs(&self.0[2]));
+        Lists { id_start: &self.0[0], id_continue: &self.0[1], emoji: &self.0[2] }
+    }
+}
+
+fn all_lists() -> Vec<Owned> {
+    let pictures =
+        |c| ('\u{1f300}'..='\u{1f9ff}').contains(&c) || ('\u{2600}'..='\u{27bf}').contains(&c);
+    vec![
+        Owned([vec![], vec![], vec![]]),
+        Owned([pairs(char::is_alphabetic), pairs(char::is_alphanumeric), pairs(pictures)]),
+        // Odd ones: all is everything; starts that do not go on.
+        Owned([pairs(|_| true), pairs(|_| true), pairs(|_| true)]),
+        Owned([
+            pairs(|c| u32::from(c) % 1000 < 500),
+            pairs(|c| u32::from(c) % 1000 >= 500),
+            pairs(|c| u32::from(c) % 3000 < 9),
+        ]),
+    ]
+}
+
+// ---- the comparison ----
+
+#[derive(Default)]
+struct Count {
+    texts: usize,
+    tokens: usize,
+    keys: usize,
+    broken: usize,
+    ill_formed: usize,
+}
+
+fn compare(text: &str, lists: &Lists, count: &mut Count) {
+    count.texts += 1;
+    for frontmatter in [FrontmatterAllowed::No, FrontmatterAllowed::Yes] {
+        let theirs = their_tokens(text, frontmatter);
+        let ours = lovemudarn::tokenize(text, frontmatter, lists);
+        assert_eq!(ours.as_ref(), Ok(&theirs), "{text:?} {frontmatter:?}");
+        count.tokens += theirs.len();
+        // One by one, with the flag that their cursor has.
+        let mut cursor = rustc_lexer::Cursor::new(text, allowed(frontmatter));
+        let (mut at, mut flag) = (0, frontmatter);
+        for token in theirs.iter().map(Some).chain([None]) {
+            let one = lovemudarn::advance_token(text, lists, at, flag).unwrap();
+            let token =
+                token.copied().unwrap_or(Token { kind: TokenKind::Eof, len: 0, start: text.len() });
+            assert_eq!(one.token, token, "{text:?} {at}");
+            cursor.advance_token();
+            assert_eq!(
+                one.frontmatter == FrontmatterAllowed::Yes,
+                rustc_lexer::allows_frontmatter(&cursor)
+            );
+            assert_eq!(one.next, text.len() - cursor.as_str().len());
+            (at, flag) = (one.next, one.frontmatter);
+        }
+    }
+    let theirs = their_key(text);
+    let ours = lovemudarn::key(text, lists);
+    assert_eq!(ours, theirs, "{text:?}");
+    match ours {
+        Ok(key) => {
+            count.keys += 1;
+            assert_eq!(
+                lovemudarn::key(&key, lists).as_ref(),
+                Ok(&key),
+                "the key of a key: {text:?}"
+            );
+        }
+        Err(_) => count.broken += 1,
+    }
+    assert_eq!(lovemudarn::strip_shebang(text), Ok(rustc_lexer::strip_shebang(text)), "{text:?}");
+    assert_eq!(lovemudarn::is_ident(text, lists), Ok(rustc_lexer::is_ident(text)), "{text:?}");
+    for (at, _) in text.char_indices().chain([(text.len(), ' ')]) {
+        let rest = &text[at..];
+        let mut cursor = rustc_lexer::Cursor::new(rest, rustc_lexer::FrontmatterAllowed::No);
+        let found = cursor.guarded_double_quoted_string().map(|found| GuardedStr {
+            n_hashes: found.n_hashes,
+            terminated: found.terminated,
+            token_len: found.token_len,
+        });
+        let next = text.len() - cursor.as_str().len();
+        let ours = lovemudarn::guarded_double_quoted_string(text, lists, at);
+        assert_eq!(ours, Ok((found, next)), "{text:?} {at}");
+        for (prefix, begins) in
+            [(1, rest.starts_with('r')), (2, rest.starts_with("br") || rest.starts_with("cr"))]
+        {
+            let ours = lovemudarn::validate_raw_str(rest, prefix);
+            if begins {
+                let theirs = rustc_lexer::validate_raw_str(rest, prefix as u32).map_err(raw_error);
+                assert_eq!(ours, Ok(theirs), "{rest:?}");
+            } else {
+                assert_eq!(ours, Err(Refusal::Prefix), "{rest:?} {prefix}");
+            }
+        }
+    }
+}
+
+fn raw_error(error: rustc_lexer::RawStrError) -> RawStrError {
+    use rustc_lexer::RawStrError as Theirs;
+    match error {
+        Theirs::InvalidStarter { bad_char } => RawStrError::InvalidStarter { bad_char },
+        Theirs::NoTerminator { expected, found, possible_terminator_offset } => {
+            RawStrError::NoTerminator { expected, found, possible_terminator_offset }
+        }
+        Theirs::TooManyDelimiters { found } => RawStrError::TooManyDelimiters { found },
+    }
+}
+
+/// A text with some bytes changed: where it is not UTF-8 any more, every call tells where.
+fn compare_damaged(text: &str, chance: &mut Chance, lists: &Lists, count: &mut Count) {
+    let mut bytes = text.as_bytes().to_vec();
+    for _ in 0..1 + chance.below(3) {
+        if !bytes.is_empty() {
+            let at = chance.below(bytes.len());
+            match chance.below(3) {
+                0 => bytes[at] = chance.below(256) as u8,
+                1 => drop(bytes.remove(at)),
+                _ => bytes.insert(at, 0x80 + chance.below(128) as u8),
+            }
+        }
+    }
+    match std::str::from_utf8(&bytes) {
+        Ok(text) => compare(text, lists, count),
+        Err(error) => {
+            count.ill_formed += 1;
+            let refusal = Refusal::NotUtf8 { at: error.valid_up_to() };
+            assert_eq!(
+                lovemudarn::tokenize(&bytes, FrontmatterAllowed::Yes, lists),
+                Err(refusal),
+                "{bytes:?}"
+            );
+            assert_eq!(lovemudarn::key(&bytes, lists), Err(refusal), "{bytes:?}");
+            assert_eq!(lovemudarn::strip_shebang(&bytes), Err(refusal), "{bytes:?}");
+            assert_eq!(lovemudarn::is_ident(&bytes, lists), Err(refusal), "{bytes:?}");
+        }
+    }
+}
+
+fn number(name: &str, otherwise: u64) -> u64 {
+    env::var(name).ok().and_then(|word| word.parse().ok()).unwrap_or(otherwise)
+}
+
+// One test: the lists of rustc's lexer are shared by all threads.
+#[test]
+fn the_same_as_rustcs_lexer() {
+    let texts = number("LOVEMUDARN_TEXTS", 40_000) as usize;
+    let mut chance = Chance(number("LOVEMUDARN_SEED", 1));
+    let all = all_lists();
+    let mut count = Count::default();
+    for owned in &all {
+        let lists = owned.lend();
+        for c in '\0'..=char::MAX {
+            assert_eq!(lovemudarn::is_whitespace(c), rustc_lexer::is_whitespace(c));
+            assert_eq!(
+                lovemudarn::is_horizontal_whitespace(c),
+                rustc_lexer::is_horizontal_whitespace(c)
+            );
+            // The searches go from the front: a part of the characters is enough here.
+            if u32::from(c) < 0x3000 || u32::from(c) % 97 == 0 {
+                assert_eq!(lovemudarn::is_id_start(c, &lists), Ok(rustc_lexer::is_id_start(c)));
+                assert_eq!(
+                    lovemudarn::is_id_continue(c, &lists),
+                    Ok(rustc_lexer::is_id_continue(c))
+                );
+            }
+        }
+        for _ in 0..texts / all.len() {
+            let text = any_text(&mut chance);
+            compare(&text, &lists, &mut count);
+            if chance.below(4) == 0 {
+                compare_damaged(&text, &mut chance, &lists, &mut count);
+            }
+        }
+        // Long ones.
+        for _ in 0..20 {
+            let text: String = (0..200).map(|_| chance.pick(PIECES)).collect();
+            compare(&text, &lists, &mut count);
+        }
+    }
+    println!(
+        "{} texts, {} tokens, {} keys, {} broken, {} ill-formed: all agree",
+        count.texts, count.tokens, count.keys, count.broken, count.ill_formed
+    );
+}

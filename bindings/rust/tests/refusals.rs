@@ -1,0 +1,198 @@
+//! Every refusal, its place, the order of the checks, and that a refusal writes nothing.
+
+use lovemudarn::{
+    FrontmatterAllowed::No, ListName, Lists, Refusal, advance_token, check,
+    guarded_double_quoted_string, is_emoji_char, is_id_continue, is_id_start, is_ident, key,
+    key_into, strip_shebang, token_of, tokenize, tokenize_into, validate_raw_str,
+};
+
+const NONE: &Lists = &Lists::EMPTY;
+
+#[test]
+fn not_utf8() {
+    let texts: [(&[u8], usize); 6] = [
+        (b"\xff", 0),
+        (b"a\xc0\x80", 1),
+        (b"caf\xc3\xa9 \xed\xa0\x80", 6),
+        (b"a\xe2\x82", 1),
+        (b"a\xf4\x90\x80\x80", 1),
+        (b"\"a\xff\" /*", 2),
+    ];
+    for (text, at) in texts {
+        let refusal = Refusal::NotUtf8 { at };
+        assert_eq!((refusal.number(), refusal.place()), (2, Some(at)));
+        assert_eq!(check(text, NONE), Err(refusal));
+        assert_eq!(tokenize(text, No, NONE), Err(refusal));
+        assert_eq!(key(text, NONE), Err(refusal));
+        assert_eq!(advance_token(text, NONE, 99, No), Err(refusal));
+        assert_eq!(guarded_double_quoted_string(text, NONE, 99), Err(refusal));
+        assert_eq!(is_ident(text, NONE), Err(refusal));
+        assert_eq!(strip_shebang(text), Err(refusal));
+        assert_eq!(validate_raw_str(text, 9), Err(refusal));
+    }
+}
+
+#[test]
+fn lists() {
+    let many: Vec<u32> = (0..2049).flat_map(|n| [0x3400 + 4 * n, 0x3400 + 4 * n]).collect();
+    let bad: [(&[u32], usize); 9] = [
+        (&[0x41, 0x5A], 0),
+        (&[0x100], 0),
+        (&[0xAA, 0xAA, 0x100], 1),
+        (&[0xAA, 0xAA, 0xAA, 0xAA], 1),
+        (&[0x301, 0x300], 0),
+        (&[0x80, 0x84, 0x85, 0x85], 1),
+        (&[0xD7FF, 0xD800], 0),
+        (&[0xE000, 0x110000], 0),
+        (&many, 2048),
+    ];
+    for (list, pair) in bad {
+        let cases = [
+            (Lists { id_start: list, ..Lists::EMPTY }, ListName::IdStart),
+            (Lists { id_continue: list, ..Lists::EMPTY }, ListName::IdContinue),
+            (Lists { emoji: list, ..Lists::EMPTY }, ListName::Emoji),
+        ];
+        for (lists, name) in cases {
+            let refused = Refusal::List { list: name, pair };
+            assert_eq!((refused.number(), refused.place()), (3, None));
+            // Lists come before the text's bytes.
+            for text in [&b"a"[..], b"\xff", b""] {
+                assert_eq!(check(text, &lists), Err(refused));
+                assert_eq!(tokenize(text, No, &lists), Err(refused));
+                assert_eq!(key(text, &lists), Err(refused));
+                assert_eq!(advance_token(text, &lists, 9, No), Err(refused));
+            }
+            // Calls check only what they use.
+            let ident = is_ident("a", &lists);
+            let guarded = guarded_double_quoted_string("a", &lists, 0);
+            if name == ListName::Emoji {
+                assert_eq!((ident, guarded), (Ok(true), Ok((None, 0))));
+            } else {
+                assert_eq!((ident, guarded), (Err(refused), Err(refused)));
+            }
+            let class = |uses: ListName, answer: Result<bool, Refusal>| {
+                assert_eq!(answer.is_err(), uses == name);
+                assert!(answer.is_ok() || answer == Err(refused));
+            };
+            class(ListName::IdStart, is_id_start('a', &lists));
+            class(ListName::IdContinue, is_id_continue('a', &lists));
+            class(ListName::Emoji, is_emoji_char('a', &lists));
+        }
+        // The first bad list is named.
+        let all = Lists { id_start: list, id_continue: &[1, 0], emoji: &[1] };
+        assert_eq!(check("", &all), Err(Refusal::List { list: ListName::IdStart, pair }));
+    }
+    let last = &many[..4096];
+    assert_eq!(check("", &Lists { id_start: last, id_continue: last, emoji: last }), Ok(()));
+}
+
+#[test]
+fn positions() {
+    let text = "aé€😀z";
+    for at in (0..20).chain([usize::MAX]) {
+        let one = advance_token(text, NONE, at, No);
+        let guarded = guarded_double_quoted_string(text, NONE, at);
+        if text.is_char_boundary(at) {
+            assert!(one.is_ok() && guarded == Ok((None, at)));
+        } else {
+            let refusal = Refusal::Position { at };
+            assert_eq!((refusal.number(), refusal.place()), (4, Some(at)));
+            assert_eq!((one, guarded), (Err(refusal), Err(refusal)));
+        }
+    }
+}
+
+#[test]
+fn too_few_slots_write_nothing() {
+    let text = "a + 1;";
+    let mut records = [[7; 4]; 9];
+    for slots in 0..6 {
+        let refusal = Refusal::Slots { needed: 6 };
+        assert_eq!((refusal.number(), refusal.needed()), (5, Some(6)));
+        assert_eq!(tokenize_into(text, No, NONE, &mut records[..slots]), Err(refusal));
+        assert_eq!(records, [[7; 4]; 9]);
+    }
+    // Past the answer the records keep their values.
+    assert_eq!(tokenize_into(text, No, NONE, &mut records[..8]), Ok(6));
+    assert_eq!(records[6..], [[7; 4]; 3]);
+    let tokens: Vec<_> = records[..6].iter().map(|&record| token_of(record).unwrap()).collect();
+    assert_eq!(tokens, tokenize(text, No, NONE).unwrap());
+    assert_eq!(
+        tokenize_into("\u{ff}\u{85}'", No, NONE, &mut []),
+        Err(Refusal::Slots { needed: 3 })
+    );
+    assert_eq!(tokenize_into("", No, NONE, &mut []), Ok(0));
+}
+
+#[test]
+fn broken_tokens_have_no_key() {
+    for (text, at) in [
+        ("a /*/*/", 2),
+        ("/** a", 0),
+        ("x = \"a", 4),
+        ("'/**/'", 0),
+        ("b'", 0),
+        ("b\"", 0),
+        ("c\"", 0),
+        ("r#\"a\"", 0),
+        ("br##", 0),
+        ("é cr\"", 3),
+        // The first of two.
+        ("'/ /*", 0),
+    ] {
+        let refusal = Refusal::Broken { at };
+        assert_eq!((refusal.number(), refusal.place()), (6, Some(at)));
+        assert_eq!(key(text, NONE), Err(refusal), "{text:?}");
+        // Before too little room.
+        let mut none = [];
+        assert_eq!(key_into(text, NONE, &mut none), Err(refusal));
+    }
+}
+
+#[test]
+fn too_little_room_writes_nothing() {
+    let text = "/* a */x = 1; // b\n";
+    let mut out = *b"0123456789";
+    for room in 0..8 {
+        let refusal = Refusal::Room { needed: 8 };
+        assert_eq!((refusal.number(), refusal.needed()), (7, Some(8)));
+        assert_eq!(key_into(text, NONE, &mut out[..room]), Err(refusal));
+        assert_eq!(&out, b"0123456789");
+    }
+    assert_eq!(key_into(text, NONE, &mut out), Ok(8));
+    assert_eq!(&out, b"\nx\n=\n1;\n89");
+}
+
+#[test]
+fn prefixes() {
+    for (text, prefix) in [
+        ("", 1),
+        ("a\"b\"", 1),
+        ("r\"\"", 0),
+        ("r\"\"", 2),
+        ("br\"\"", 1),
+        ("dr\"\"", 2),
+        ("r", usize::MAX),
+    ] {
+        assert_eq!(validate_raw_str(text, prefix), Err(Refusal::Prefix), "{text:?} {prefix}");
+    }
+    assert_eq!(Refusal::Prefix.number(), 8);
+}
+
+#[test]
+fn a_record_of_no_token() {
+    for record in [[43, 0, 1, 0], [u32::MAX; 4], [64 * 3, 0, 1, 0], [4 + 64, 0, 1, 0]] {
+        assert!(matches!(token_of(record), Err(Refusal::Unknown { number: 0, .. })));
+    }
+}
+
+/// Reads 4 GiB of zeros twice; `cargo test -- --ignored` runs it.
+#[test]
+#[ignore = "takes 4 GiB of address space and some minutes"]
+fn too_long() {
+    let text = vec![0; 1 << 32];
+    let bad = Lists { id_start: &[1], ..Lists::EMPTY };
+    assert_eq!(check(&text, &bad), Err(Refusal::TooLong));
+    assert_eq!(strip_shebang(&text), Err(Refusal::TooLong));
+    assert_eq!(Refusal::TooLong.number(), 1);
+}

@@ -1,0 +1,359 @@
+//! Times the archive beside rustc's lexer ("000") in one process, on the same texts and lists, in turn.
+//!
+//!     bench [--rounds N]                     the table
+//!     bench profile WORK SIDE TEXT KIB N     one of them N times, for a profiler
+//!
+//!     bench text KIB TEXT                    the text itself
+//!
+//! WORK is key, tokens or check; SIDE is rattle or 000; TEXT is ascii, mixed or names.
+//!
+//! Both sides take bytes. "key" is the key into a lent buffer; 000 has none, so there it is 000's
+//! `tokenize` and, in the same pass, the key by the scope paper's words, in plain Rust. "tokens" is the
+//! kind, suffix, length and start of every token into a lent buffer. "check" is what comes before the
+//! tokens: UTF-8 and the rules of the lists on the one side, `from_utf8` on the other, and it is part of
+//! the other two on both sides.
+
+mod source;
+
+use std::env;
+use std::hint::black_box;
+use std::process::ExitCode;
+use std::time::Instant;
+
+use lovemudarn::{FrontmatterAllowed, Lists, Record};
+use rustc_lexer::{LiteralKind, TokenKind};
+use source::{Choice, source};
+
+// ---- 000's side ----
+
+fn is_trivia(kind: TokenKind) -> bool {
+    matches!(
+        kind,
+        TokenKind::Whitespace
+            | TokenKind::LineComment { doc_style: None }
+            | TokenKind::BlockComment { doc_style: None, .. }
+    )
+}
+
+fn is_broken(kind: TokenKind) -> bool {
+    match kind {
+        TokenKind::BlockComment { terminated, .. } => !terminated,
+        TokenKind::Literal { kind, .. } => match kind {
+            LiteralKind::Int { .. } | LiteralKind::Float { .. } => false,
+            LiteralKind::Char { terminated }
+            | LiteralKind::Byte { terminated }
+            | LiteralKind::Str { terminated }
+            | LiteralKind::ByteStr { terminated }
+            | LiteralKind::CStr { terminated } => !terminated,
+            LiteralKind::RawStr { n_hashes }
+            | LiteralKind::RawByteStr { n_hashes }
+            | LiteralKind::RawCStr { n_hashes } => n_hashes.is_none(),
+        },
+        _ => false,
+    }
+}
+
+/// The bytes of the key. `None` where there is none, or where it has no room.
+fn their_key(bytes: &[u8], out: &mut [u8]) -> Option<usize> {
+    let text = std::str::from_utf8(bytes).ok()?;
+    let (mut at, mut used, mut gap) = (0, 0, false);
+    for token in rustc_lexer::tokenize(text, rustc_lexer::FrontmatterAllowed::No) {
+        let next = at + token.len as usize;
+        if is_broken(token.kind) {
+            return None;
+        }
+        let trivia = is_trivia(token.kind);
+        if !trivia {
+            let piece = &bytes[at..next];
+            out.get_mut(used..used + piece.len())?.copy_from_slice(piece);
+            used += piece.len();
+        } else if !gap {
+            *out.get_mut(used)? = b'\n';
+            used += 1;
+        }
+        gap = trivia;
+        at = next;
+    }
+    Some(used)
+}
+
+#[derive(Clone, Copy)]
+struct Theirs {
+    kind: TokenKind,
+    len: u32,
+    start: u32,
+}
+
+fn their_tokens(bytes: &[u8], out: &mut [Theirs]) -> Option<usize> {
+    let text = std::str::from_utf8(bytes).ok()?;
+    let (mut start, mut count) = (0, 0);
+    for token in rustc_lexer::tokenize(text, rustc_lexer::FrontmatterAllowed::No) {
+        *out.get_mut(count)? = Theirs { kind: token.kind, len: token.len, start };
+        start += token.len;
+        count += 1;
+    }
+    Some(count)
+}
+
+// ---- lists ----
+
+fn pairs(member: impl Fn(char) -> bool) -> Vec<u32> {
+    let mut list: Vec<u32> = Vec::new();
+    for c in '\u{80}'..=char::MAX {
+        if !member(c) || rustc_lexer::is_whitespace(c) {
+            continue;
+        }
+        let point = u32::from(c);
+        match list.last_mut() {
+            Some(high) if *high + 1 == point => *high = point,
+            _ => list.extend([point, point]),
+        }
+    }
+    list
+}
+
+fn is_picture(c: char) -> bool {
+    matches!(c, '\u{2600}'..='\u{27bf}' | '\u{1f300}'..='\u{1f64f}' | '\u{1f680}'..='\u{1f6ff}' | '\u{1f900}'..='\u{1f9ff}')
+}
+
+// ---- one text, with the buffers of both sides ----
+
+struct Bench<'a> {
+    text: Vec<u8>,
+    lists: Lists<'a>,
+    ours: Vec<u8>,
+    theirs: Vec<u8>,
+    our_records: Vec<Record>,
+    their_records: Vec<Theirs>,
+}
+
+#[derive(Clone, Copy, PartialEq)]
+enum Work {
+    Key,
+    KeyCleared,
+    Tokens,
+    Check,
+}
+
+#[derive(Clone, Copy, PartialEq)]
+enum Side {
+    Rattle,
+    Rust,
+}
+
+impl Bench<'_> {
+    fn new<'a>(text: String, lists: Lists<'a>) -> Bench<'a> {
+        let text = text.into_bytes();
+        let (bytes, tokens) = (text.len(), text.len() / 2);
+        let blank = Theirs { kind: TokenKind::Eof, len: 0, start: 0 };
+        Bench {
+            text,
+            lists,
+            ours: vec![1; bytes],
+            theirs: vec![1; bytes],
+            our_records: vec![[1; 4]; tokens],
+            their_records: vec![blank; tokens],
+        }
+    }
+
+    /// Does the work once and gives a number that depends on it.
+    fn run(&mut self, work: Work, side: Side) -> Option<usize> {
+        let text = black_box(&self.text[..]);
+        match (work, side) {
+            (Work::Key, Side::Rattle) => {
+                lovemudarn::key_into(text, &self.lists, &mut self.ours).ok()
+            }
+            (Work::Key, Side::Rust) => their_key(text, &mut self.theirs),
+            (Work::KeyCleared, Side::Rattle) => {
+                black_box(&mut self.ours).fill(0);
+                lovemudarn::key_into(text, &self.lists, &mut self.ours).ok()
+            }
+            (Work::KeyCleared, Side::Rust) => {
+                black_box(&mut self.theirs).fill(0);
+                their_key(text, &mut self.theirs)
+            }
+            (Work::Tokens, Side::Rattle) => lovemudarn::tokenize_into(
+                text,
+                FrontmatterAllowed::No,
+                &self.lists,
+                &mut self.our_records,
+            )
+            .ok(),
+            (Work::Tokens, Side::Rust) => their_tokens(text, &mut self.their_records),
+            (Work::Check, Side::Rattle) => lovemudarn::check(text, &self.lists).ok().map(|()| 0),
+            (Work::Check, Side::Rust) => std::str::from_utf8(text).ok().map(str::len).map(|_| 0),
+        }
+    }
+
+    /// Whether both sides give the same key and the same tokens.
+    fn agree(&mut self) -> Option<(usize, usize)> {
+        let key = self.run(Work::Key, Side::Rattle)?;
+        if self.run(Work::Key, Side::Rust)? != key || self.ours[..key] != self.theirs[..key] {
+            return None;
+        }
+        let tokens = self.run(Work::Tokens, Side::Rattle)?;
+        if self.run(Work::Tokens, Side::Rust)? != tokens {
+            return None;
+        }
+        for (&ours, theirs) in self.our_records[..tokens].iter().zip(&self.their_records) {
+            let token = lovemudarn::token_of(ours).ok()?;
+            // The kinds have the same names and fields.
+            if (token.len, token.start) != (theirs.len, theirs.start as usize)
+                || format!("{:?}", token.kind) != format!("{:?}", theirs.kind)
+            {
+                return None;
+            }
+        }
+        Some((key, tokens))
+    }
+
+    fn time(&mut self, work: Work, side: Side) -> f64 {
+        let began = Instant::now();
+        black_box(self.run(work, side));
+        began.elapsed().as_secs_f64() * 1e6
+    }
+}
+
+/// The middle, and what nine of ten are below.
+fn middle_and_most(mut times: Vec<f64>) -> (f64, f64) {
+    times.sort_by(f64::total_cmp);
+    (times[times.len() / 2], times[times.len() * 9 / 10])
+}
+
+fn table(rounds: usize, lists: Lists) -> Result<(), String> {
+    println!(
+        "| text | KiB | work | buffer | Rattle µs | p90 | ns/byte | 000 µs | p90 | ns/byte | Rattle / 000 |"
+    );
+    println!("|---|---|---|---|---|---|---|---|---|---|---|");
+    for (name, choice) in TEXTS {
+        let sizes: &[usize] = if choice == Choice::Names { &[64] } else { &[16, 32, 64, 128] };
+        for &kib in sizes {
+            let text = source(kib * 1024, choice);
+            let mut bench = Bench::new(text, lists);
+            bench.agree().ok_or(format!("{name}, {kib} KiB: the sides differ"))?;
+            let mut work = vec![(Work::Key, "key", "as left")];
+            if kib == 64 && choice != Choice::Names {
+                work.push((Work::KeyCleared, "key", "cleared"));
+                work.push((Work::Check, "check", "none"));
+            }
+            work.push((Work::Tokens, "tokens", "as left"));
+            let mut times = vec![[Vec::new(), Vec::new()]; work.len()];
+            for round in 0..rounds + 5 {
+                for (at, &(work, _, _)) in work.iter().enumerate() {
+                    // Either side goes first every other time.
+                    let order = if round % 2 == 0 {
+                        [Side::Rattle, Side::Rust]
+                    } else {
+                        [Side::Rust, Side::Rattle]
+                    };
+                    for side in order {
+                        let took = bench.time(work, side);
+                        // The first rounds warm up.
+                        if round >= 5 {
+                            times[at][side as usize].push(took);
+                        }
+                    }
+                }
+            }
+            for ((_, what, buffer), [ours, theirs]) in work.into_iter().zip(times) {
+                let (ours, theirs) = (middle_and_most(ours), middle_and_most(theirs));
+                let a_byte = |time: f64| time * 1000.0 / (kib * 1024) as f64;
+                println!(
+                    "| {name} | {kib} | {what} | {buffer} | {:.0} | {:.0} | {:.1} | {:.0} | {:.0} | {:.1} | {:.1} |",
+                    ours.0,
+                    ours.1,
+                    a_byte(ours.0),
+                    theirs.0,
+                    theirs.1,
+                    a_byte(theirs.0),
+                    ours.0 / theirs.0
+                );
+            }
+        }
+    }
+    println!();
+    for (name, choice) in TEXTS {
+        let text = source(64 * 1024, choice);
+        let past = text.bytes().filter(|byte| !byte.is_ascii()).count();
+        let mut bench = Bench::new(text, lists);
+        let (key, tokens) = bench.agree().ok_or("the sides differ")?;
+        println!(
+            "{name}, 64 KiB: {tokens} tokens, a key of {key} bytes, {past} bytes outside ASCII"
+        );
+    }
+    println!(
+        "lists: {}, {} and {} pairs; {rounds} rounds, the sides in turn",
+        lists.id_start.len() / 2,
+        lists.id_continue.len() / 2,
+        lists.emoji.len() / 2
+    );
+    Ok(())
+}
+
+const TEXTS: [(&str, Choice); 3] =
+    [("ASCII", Choice::Ascii), ("mixed", Choice::Mixed), ("names", Choice::Names)];
+
+fn choice(word: &str) -> Result<Choice, String> {
+    let named = TEXTS.iter().find(|(name, _)| name.eq_ignore_ascii_case(word));
+    named.map(|&(_, choice)| choice).ok_or(format!("no text: {word}"))
+}
+
+fn profile(words: &[&str], lists: Lists) -> Result<(), String> {
+    let &[work, side, text, kib, count] = words else {
+        return Err("usage: bench profile WORK SIDE TEXT KIB N".to_string());
+    };
+    let work = match work {
+        "key" => Work::Key,
+        "tokens" => Work::Tokens,
+        "check" => Work::Check,
+        _ => return Err(format!("no work: {work}")),
+    };
+    let side = match side {
+        "rattle" => Side::Rattle,
+        "000" => Side::Rust,
+        _ => return Err(format!("no side: {side}")),
+    };
+    let number = |word: &str| word.parse::<usize>().map_err(|_| format!("no number: {word}"));
+    let mut bench = Bench::new(source(number(kib)? * 1024, choice(text)?), lists);
+    for _ in 0..number(count)? {
+        black_box(bench.run(work, side)).ok_or("refused")?;
+    }
+    Ok(())
+}
+
+fn start() -> Result<(), String> {
+    let words: Vec<String> = env::args().skip(1).collect();
+    let words: Vec<&str> = words.iter().map(String::as_str).collect();
+    if let ["text", kib, text] = words[..] {
+        let kib: usize = kib.parse().map_err(|_| format!("no number: {kib}"))?;
+        print!("{}", source(kib * 1024, choice(text)?));
+        return Ok(());
+    }
+    let (id_start, id_continue, emoji) =
+        (pairs(char::is_alphabetic), pairs(char::is_alphanumeric), pairs(is_picture));
+    unicode_ident::lend(&id_start, &id_continue);
+    unicode_properties::lend(&emoji);
+    let lists = Lists { id_start: &id_start, id_continue: &id_continue, emoji: &emoji };
+    match words[..] {
+        [] => table(300, lists),
+        ["--rounds", rounds] => {
+            let rounds: usize = rounds.parse().map_err(|_| format!("no number: {rounds}"))?;
+            table(rounds.max(1), lists)
+        }
+        ["profile", ref rest @ ..] => profile(rest, lists),
+        _ => Err(
+            "usage: bench [--rounds N] | bench profile WORK SIDE TEXT KIB N | bench text KIB TEXT"
+                .to_string(),
+        ),
+    }
+}
+
+fn main() -> ExitCode {
+    match start() {
+        Ok(()) => ExitCode::SUCCESS,
+        Err(why) => {
+            eprintln!("bench: {why}");
+            ExitCode::FAILURE
+        }
+    }
+}
