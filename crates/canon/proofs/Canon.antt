@@ -1,4 +1,4 @@
--- THE KEY IS CANONICAL (document 01, "The key"), for lists that obey the rules and texts with no broken token. Nothing is asked of a text's UTF-8:
+-- THE KEY IS CANONICAL (document 01, "The key"), for a list of id start that obeys the rules and texts with no broken token. Nothing is asked of a text's UTF-8:
 -- the records of a text, and with them its meaning and its key, are those of the characters before its first ill-formed sequence.
 use Prim.Native.Nat.{ℕ}
 use mathlib.Core.Path.{_≡_, sym, ap, subst, _∙_}

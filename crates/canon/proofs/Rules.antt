@@ -34,9 +34,9 @@ use Rattle.token.specs.Advance.{plain}
 use Rattle.canon.specs.Broken.{brokenLiteral, isBroken}
 use Rattle.canon.specs.Fair.{Fair}
 use Rattle.canon.specs.Local.{stills, Sound}
-use Rattle.canon.proofs.Sounds.{false-true, none-at, always, Quiet, quiet, quiet-or, sound-wider, sound-more, sound-give, sound-choose, sound-ifAt, sound-ifTwo, sound-ifSecond, sound-texted, sound-eat, sound-any, sound-run, sound-while, sound-bind, sound-then, sound-say, sound-ifEat}
+use Rattle.canon.proofs.Sounds.{false-true, none-at, always, Quiet, quiet, quiet-or, sound-wider, sound-more, sound-give, sound-choose, sound-ifAt, sound-ifTwo, sound-ifSecond, sound-texted, sound-eat, sound-any, sound-run, sound-while, sound-bind, sound-then, sound-say, sound-ifTaking, sound-ifEat}
 use Rattle.canon.proofs.Scans.{found, Ends, sound-scan, scan-some, sound-firstWith}
-use Rattle.canon.proofs.Stills.{start-none, emoji-none, end-starts, line-starts, line-goes, end-smiles, line-invalid}
+use Rattle.canon.proofs.Stills.{start-none, end-starts, line-starts, line-goes, end-smiles, line-smiles, line-invalid, invalid-takes}
 
 -- a turn that ends the search
 ended : Turn → Bool
@@ -101,7 +101,7 @@ unfolding choose
 sound-if true x y = x refl
 sound-if false x y = y
 
--- Whether locality is asked for too: then the lists have to be fair.
+-- Whether locality is asked for too: then the list of id start has to be good.
 module _ (asked : Bool) where
   -- what is said is good: locality is asked for, and it is not broken
   abbrev pub whole : {A : Type 0} → (A → Bool) → A → Bool
@@ -193,17 +193,13 @@ module _ (asked : Bool) where
     module _ (fair : asked ≡ true → Fair L) where
       starts-quiet : {A : Type 0} (broken : A → Bool) → Quiet (whole broken) (starting L)
       starts-quiet broken =
-          record { end = end-starts L; still = λ x k c i. none-at (starting L) stills c (start-none (fair (and-1 asked _ k) .0)) i }
-
-      smiles-quiet : {A : Type 0} (broken : A → Bool) → Quiet (whole broken) (smiling L)
-      smiles-quiet broken =
-          record { end = end-smiles L; still = λ x k c i. none-at (smiling L) stills c (emoji-none (fair (and-1 asked _ k) .2)) i }
+          record { end = end-starts L; still = λ x k c i. none-at (starting L) stills c (start-none (fair (and-1 asked _ k))) i }
 
       word-sound : {n : ℕ} → Sound n (whole isBroken) (identOrUnknownPrefix L)
       word-sound =
           sound-then (sound-while (going L) (line-goes L))
           (λ t. sound-ifAt prefixMark (quiet _ refl) (sound-give _)
-          (sound-ifAt (smiling L) (smiles-quiet isBroken) invalid-sound (sound-give _)))
+          (sound-ifTaking (smiling L) (end-smiles L) (line-smiles L) invalid-sound (sound-give _) (invalid-takes L)))
 
       -- numbers
       fraction-sound : (base : Base) → Sound 0 (whole brokenBody) (fraction L base)

@@ -12,7 +12,7 @@ use Rattle.basics.specs.Choice.{pick, and, or}
 use Rattle.basics.specs.Tests.{isIn}
 use Rattle.eaters.specs.Eat.{Got, Eater, give, eat, eatAny, takeWhile, while, _>>=_, _>>_, Read, texted, choose}
 use Rattle.eaters.specs.Look.{ifAt, ifTwo, ifEat}
-use Rattle.eaters.proofs.Fits.{Fits, fits-any, fits-while, fits-bind, fits-choose, fits-ifAt-one, fits-ifEat, fits-ifTwo}
+use Rattle.eaters.proofs.Fits.{Fits, fits-any, fits-while, fits-bind, fits-choose, fits-ifAt-one, fits-ifTwo}
 use Rattle.token.specs.Names.{'newline'}
 use Rattle.canon.specs.Local.{stills, Near, all, both, Like, ends, gap, same, Sound}
 
@@ -263,32 +263,31 @@ pub sound-say : {A B : Type 0} {g : A → Bool} {k : B → Bool} {n : ℕ} {m : 
 unfolding give
 sound-say f s w = sound-bind s (λ x. sound-give (f x)) (λ x cs h. w x h)
 
--- A character that is taken if it is of p: the end and a newline are not. Other trivia may be, for then it is taken.
-pub sound-ifEat : {A : Type 0} {g : A → Bool} {n : ℕ} {this that : Eater A} (p : ℕ → Bool) → p 0 ≡ false → p 'newline' ≡ false → Sound 0 g this → Sound 0 g that → Sound n g (ifEat p this that)
+-- a scan for the next character if it is of p, which a newline is not, and which takes it then
+pub sound-ifTaking : {A : Type 0} {g : A → Bool} {n : ℕ} {this that : Eater A} (p : ℕ → Bool) → p 0 ≡ false → p 'newline' ≡ false → Sound 1 g this → Sound 0 g that
+    → ((cs : List ℕ) → p (getD cs 0 0) ≡ true → 1 ≤ this cs .took) → Sound n g (ifAt p this that)
 unfolding ifAt
-sound-ifEat {A} {g} {n} {this} {that} p z q x y =
+sound-ifTaking {A} {g} {n} {this} {that} p z q x y some =
     record {
-      fits = λ cs h. fits-ifEat p z (fitting x) (fitting y) .fits cs zero-le;
-      near = λ u a b l h. rw (first-near u a b l) (pick-near eaten y (p (getD (u ++ a) 0 0)) u a b l h);
+      fits = λ cs h. fits-ifAt-one p z (fitting x) (fitting y) .fits cs zero-le;
+      near = λ u a b l h. rw (first-near u a b l) (pick-near x y (p (getD (u ++ a) 0 0)) u a b l h);
       local = at;
     }
   where
-    eaten : Sound 1 g (eat 1 >> this)
-    eaten = sound-then (sound-eat 1) (λ i. x)
-
-    some : (cs : List ℕ) → 1 ≤ (eat 1 >> this) cs .took
-    some cs = unfold _>>=_ eat in (omega arith)
-
     next : (a b : List ℕ) → Like 2 a b → p (getD a 0 0) ≡ false → p (getD b 0 0) ≡ false
     next a b ends e = e
     next a b (gap i) e = q
     next a b (same l) e = e
 
-    first : (a b : List ℕ) → Like 2 a b → (s : Bool) → p (getD a 0 0) ≡ s → pick s ((eat 1 >> this) a) (that a) .took ≤ 0 → g (pick s ((eat 1 >> this) a) (that a) .said) ≡ true
-        → pick (p (getD b 0 0)) ((eat 1 >> this) b) (that b) ≡ pick s ((eat 1 >> this) a) (that a)
-    first a b l true e h k = absurd (omega (arith, some a))
+    first : (a b : List ℕ) → Like 2 a b → (s : Bool) → p (getD a 0 0) ≡ s → pick s (this a) (that a) .took ≤ 0 → g (pick s (this a) (that a) .said) ≡ true
+        → pick (p (getD b 0 0)) (this b) (that b) ≡ pick s (this a) (that a)
+    first a b l true e h k = absurd (omega (arith, some a e))
     first a b l false e h k = rw (next a b l e) (y .local [] a b l h k)
 
-    at : (u a b : List ℕ) → Like 2 a b → ifEat p this that (u ++ a) .took ≤ length u → g (ifEat p this that (u ++ a) .said) ≡ true → ifEat p this that (u ++ b) ≡ ifEat p this that (u ++ a)
+    at : (u a b : List ℕ) → Like 2 a b → ifAt p this that (u ++ a) .took ≤ length u → g (ifAt p this that (u ++ a) .said) ≡ true → ifAt p this that (u ++ b) ≡ ifAt p this that (u ++ a)
     at [] a b l h k = first a b l (p (getD a 0 0)) refl h k
-    at (c ∷ u) a b l h k = pick-local eaten y (p c) (c ∷ u) a b l h k
+    at (c ∷ u) a b l h k = pick-local x y (p c) (c ∷ u) a b l h k
+
+pub sound-ifEat : {A : Type 0} {g : A → Bool} {n : ℕ} {this that : Eater A} (p : ℕ → Bool) → p 0 ≡ false → p 'newline' ≡ false → Sound 0 g this → Sound 0 g that → Sound n g (ifEat p this that)
+unfolding _>>=_ eat
+sound-ifEat p z q x y = sound-ifTaking p z q (sound-then (sound-eat 1) (λ i. x)) y (λ cs e. omega arith)

@@ -1,20 +1,24 @@
--- Of what trivia begins with, and of the end, nothing starts an identifier and nothing is emoji. A newline does not go on in one.
-use Prim.Native.Nat.{ℕ}
-use mathlib.Core.Path.{_≡_, refl}
+-- Of what trivia begins with, and of the end, nothing starts an identifier. A newline does not go on in one and is no emoji; and what is emoji is taken.
+use Prim.Native.Nat.{ℕ, _≤_}
+use mathlib.Core.Path.{_≡_, refl, sym, _∙_}
 use mathlib.Core.List.{List, [], _∷_}
-use mathlib.Core.Bool.{true, false}
+use mathlib.Core.Bool.{Bool, true, false}
 use mathlib.Core.Logic.{⊎-elim}
+use lib.ListN.{getD}
+use native.Mathlib.Omega.{arith}
+use Rattle.basics.specs.Choice.{or}
 use Rattle.basics.proofs.Choices.{yes-or-no}
 use Rattle.lists.specs.Rules.{Good}
 use Rattle.lists.specs.Search.{inPairs}
 use Rattle.lists.proofs.Laws.{Held, held}
 use Rattle.classes.specs.Identifiers.{letter, idStart, idContinue}
 use Rattle.classes.specs.Emoji.{emojiChar}
-use Rattle.token.specs.Names.{'newline'}
+use Rattle.eaters.specs.Eat.{give, while, _>>=_}
+use Rattle.token.specs.Names.{is, 'newline', 'joiner'}
 use Rattle.token.specs.Lists.{Lists, starting, going, smiling}
-use Rattle.token.specs.Words.{inInvalid}
+use Rattle.token.specs.Words.{inInvalid, invalidIdent}
 use Rattle.canon.specs.Local.{stills}
-use Rattle.canon.proofs.Sounds.{none}
+use Rattle.canon.proofs.Sounds.{false-true, none}
 
 -- good lists hold no whitespace
 module _ {l : List ℕ} (g : Good l) where
@@ -28,10 +32,6 @@ module _ {l : List ℕ} (g : Good l) where
   pub start-none : none (idStart l) stills ≡ true
   unfolding idStart letter
   start-none = high-none
-
-  pub emoji-none : none (emojiChar l) stills ≡ true
-  unfolding emojiChar
-  emoji-none = high-none
 
 -- below 0x80 the lists say nothing
 module _ (L : Lists) where
@@ -57,3 +57,16 @@ module _ (L : Lists) where
 
   pub line-invalid : inInvalid L 'newline' ≡ false
   line-invalid = rw (line-goes, line-smiles)
+
+  -- where an emoji is next, an identifier with emoji in it takes it
+  smiles-in : (c : ℕ) → smiling L c ≡ true → inInvalid L c ≡ true
+  smiles-in c e = go (going L c) e
+    where
+      go : (t : Bool) → smiling L c ≡ true → or t (or (smiling L c) (is 'joiner' c)) ≡ true
+      go true e = refl
+      go false e = rw e
+
+  pub invalid-takes : (cs : List ℕ) → smiling L (getD cs 0 0) ≡ true → 1 ≤ invalidIdent L cs .took
+  unfolding _>>=_ while give
+  invalid-takes [] e = false-true (sym end-smiles ∙ e)
+  invalid-takes (c ∷ cs) e = rw (smiles-in c e) (omega arith)

@@ -1,6 +1,6 @@
--- The three lent lists obey the rules of a list (document 01, refusal 3): what locality asks of them.
+-- What the laws of keys ask of the lent lists: that the one of id start obeys the rules of a list (document 01, refusal 3). Nothing is asked of the others.
 use Rattle.lists.specs.Rules.{Good}
 use Rattle.token.specs.Lists.{Lists}
 
 abbrev pub Fair : Lists → Type 0
-Fair L = Good (L .starts) × Good (L .continues) × Good (L .emoji)
+Fair L = Good (L .starts)

@@ -31,7 +31,7 @@ use Rattle.key.proofs.Fits.{Done, done}
 use Rattle.key.specs.Answers.{Keying}
 
 fair-of : (limit : ℕ) (s : List ℕ) (L : Lists) → tokenVerdict limit s L ≡ verdict.Fine → Fair L
-fair-of limit s L e = step-ready limit s (L .starts) (L .continues) (L .emoji) (sym e) refl .1
+fair-of limit s L e = step-ready limit s (L .starts) (L .continues) (L .emoji) (sym e) refl .1 .0
 
 -- ONE CALL that answered `Keyed n`
 module _ {limit : ℕ} {s : List ℕ} {L : Lists} {before after : List ℕ} {n : ℕ} (k : Keying limit s L before after (Keyed n)) where
