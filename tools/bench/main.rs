@@ -13,6 +13,7 @@
 //! tokens: UTF-8 and the rules of the lists on the one side, `from_utf8` on the other, and it is part of
 //! the other two on both sides.
 
+mod lists;
 mod source;
 
 use std::env;
@@ -20,6 +21,7 @@ use std::hint::black_box;
 use std::process::ExitCode;
 use std::time::Instant;
 
+use lists::pairs;
 use lovemudarn::{FrontmatterAllowed, Lists, Record};
 use rustc_lexer::{LiteralKind, TokenKind};
 use source::{Choice, source};
@@ -96,21 +98,6 @@ fn their_tokens(bytes: &[u8], out: &mut [Theirs]) -> Option<usize> {
 }
 
 // ---- lists ----
-
-fn pairs(member: impl Fn(char) -> bool) -> Vec<u32> {
-    let mut list: Vec<u32> = Vec::new();
-    for c in '\u{80}'..=char::MAX {
-        if !member(c) || rustc_lexer::is_whitespace(c) {
-            continue;
-        }
-        let point = u32::from(c);
-        match list.last_mut() {
-            Some(high) if *high + 1 == point => *high = point,
-            _ => list.extend([point, point]),
-        }
-    }
-    list
-}
 
 fn is_picture(c: char) -> bool {
     matches!(c, '\u{2600}'..='\u{27bf}' | '\u{1f300}'..='\u{1f64f}' | '\u{1f680}'..='\u{1f6ff}' | '\u{1f900}'..='\u{1f9ff}')

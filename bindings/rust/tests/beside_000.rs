@@ -5,9 +5,13 @@
 
 #![cfg(beside_000)]
 
+#[path = "../../../tools/bench/lists.rs"]
+mod lists;
+
 use std::env;
 use std::ops::RangeInclusive;
 
+use lists::pairs;
 use lovemudarn::{
     Base, DocStyle, FrontmatterAllowed, GuardedStr, Lists, LiteralKind, RawStrError, Refusal,
     Token, TokenKind,
@@ -217,22 +221,6 @@ fn any_text(chance: &mut Chance) -> String {
 }
 
 // ---- lists ----
-
-/// The pairs of what belongs to a class, but for what no list may hold.
-fn pairs(member: impl Fn(char) -> bool) -> Vec<u32> {
-    let mut list: Vec<u32> = Vec::new();
-    for c in '\u{80}'..=char::MAX {
-        if !member(c) || rustc_lexer::is_whitespace(c) {
-            continue;
-        }
-        let point = u32::from(c);
-        match list.last_mut() {
-            Some(high) if *high + 1 == point => *high = point,
-            _ => list.extend([point, point]),
-        }
-    }
-    list
-}
 
 struct Owned([Vec<u32>; 3]);
 
