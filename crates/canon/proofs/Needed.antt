@@ -6,7 +6,7 @@ use mathlib.Core.Bool.{true, false}
 use native.Mathlib.Omega.{arith}
 use Rattle.text.specs.Utf8.{byte, two, three, four, lead, decoded}
 use Rattle.text.specs.Chars.{charsAfter, width}
-use Rattle.lists.specs.Search.{inPairs}
+use Rattle.ranges.specs.Search.{inPairs}
 use Rattle.classes.specs.Whitespace.{isWhitespace}
 use Rattle.classes.specs.Identifiers.{letter, idStart, idContinue}
 use Rattle.classes.specs.Emoji.{emojiChar}

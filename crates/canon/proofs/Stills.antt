@@ -8,9 +8,9 @@ use lib.ListN.{getD}
 use native.Mathlib.Omega.{arith}
 use Rattle.basics.specs.Choice.{or}
 use Rattle.basics.proofs.Choices.{yes-or-no}
-use Rattle.lists.specs.Rules.{Good}
-use Rattle.lists.specs.Search.{inPairs}
-use Rattle.lists.proofs.Laws.{Held, held}
+use Rattle.ranges.specs.Rules.{Good}
+use Rattle.ranges.specs.Search.{inPairs}
+use Rattle.ranges.proofs.Laws.{Held, held}
 use Rattle.classes.specs.Identifiers.{letter, idStart, idContinue}
 use Rattle.classes.specs.Emoji.{emojiChar}
 use Rattle.eaters.specs.Eat.{give, while, _>>=_}

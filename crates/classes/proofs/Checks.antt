@@ -10,8 +10,8 @@ use Rattle.refusal.specs.declared.Verdict.{Verdict}
 use Rattle.refusal.specs.declared.Verdict.the-variants.{Fine, Refused}
 use Rattle.refusal.specs.Order.{first}
 use Rattle.refusal.proofs.Orders.{first-1, first-2}
-use Rattle.lists.specs.Rules.{listVerdict, Good}
-use Rattle.lists.proofs.Laws.{fine-good}
+use Rattle.ranges.specs.Rules.{listVerdict, Good}
+use Rattle.ranges.proofs.Laws.{fine-good}
 use Rattle.text.specs.Verdicts.{tooLong, utf8Verdict}
 use Rattle.classes.specs.declared.Answer.{Answer}
 use Rattle.classes.specs.declared.Answer.the-variants as answer

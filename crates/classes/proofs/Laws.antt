@@ -7,9 +7,9 @@ use mathlib.Core.Logic.{⊎-elim}
 use borrow.Author.Tests.{le-ltb}
 use native.Mathlib.Omega.{arith}
 use Rattle.basics.proofs.Choices.{yes-or-no}
-use Rattle.lists.specs.Rules.{Good}
-use Rattle.lists.specs.Search.{inPairs}
-use Rattle.lists.proofs.Laws.{Held, held}
+use Rattle.ranges.specs.Rules.{Good}
+use Rattle.ranges.specs.Search.{inPairs}
+use Rattle.ranges.proofs.Laws.{Held, held}
 use Rattle.classes.specs.Whitespace.{isWhitespace, isHorizontalWhitespace}
 use Rattle.classes.specs.Identifiers.{idStart, idContinue}
 use Rattle.classes.specs.Emoji.{emojiChar}

@@ -9,7 +9,7 @@ use native.Mathlib.Omega.{arith}
 use Rattle.basics.specs.Choice.{pick, or}
 use Rattle.basics.specs.Tests.{within}
 use Rattle.basics.proofs.Choices.{below-or-not, inside-within, under-within, over-within}
-use Rattle.lists.specs.Search.{inPairs}
+use Rattle.ranges.specs.Search.{inPairs}
 use Rattle.classes.specs.Whitespace.{isWhitespace, isHorizontalWhitespace}
 use Rattle.classes.specs.Identifiers.{letter, digit, underscore, idStart, idContinue}
 

@@ -10,7 +10,7 @@ use Rattle.refusal.specs.Numbers.{numbers, badNumbers}
 use Rattle.refusal.specs.Order.{inOrder, listsInOrder}
 use Rattle.text.specs.Chars.{chars}
 use Rattle.text.specs.Verdicts.{tooLong, utf8Verdict}
-use Rattle.lists.specs.Rules.{listVerdict}
+use Rattle.ranges.specs.Rules.{listVerdict}
 use Rattle.classes.specs.declared.Answer.{Answer}
 use Rattle.classes.specs.declared.Answer.the-variants.{Is, Refused}
 use Rattle.classes.specs.Identifiers.{idStart, idContinue, isIdent}

@@ -4,7 +4,7 @@ use mathlib.Core.List.{List}
 use mathlib.Core.Bool.{Bool, false}
 use lib.Dec.{ltb}
 use Rattle.basics.specs.Choice.{pick}
-use Rattle.lists.specs.Search.{inPairs}
+use Rattle.ranges.specs.Search.{inPairs}
 
 unfoldable pub emojiChar : (emoji : List ℕ) → ℕ → Bool
 emojiChar emoji c = pick (ltb c 0x80) false (inPairs c emoji)

@@ -6,7 +6,7 @@ use mathlib.Core.Bool.{Bool, false}
 use lib.Dec.{ltb, eqb}
 use Rattle.basics.specs.Choice.{pick, and, or}
 use Rattle.basics.specs.Tests.{within, all}
-use Rattle.lists.specs.Search.{inPairs}
+use Rattle.ranges.specs.Search.{inPairs}
 
 -- A to Z, a to z
 unfoldable pub letter : ℕ → Bool

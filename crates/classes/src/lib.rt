@@ -6,7 +6,7 @@ ghost use mathlib.Core.Path.{_≡_};
 ghost use lib.ListN.{drop};
 ghost use Rattle.basics.specs.Tests.{all};
 ghost use Rattle.text.specs.Chars.{chars};
-ghost use Rattle.lists.specs.Rules.{Good};
+ghost use Rattle.ranges.specs.Rules.{Good};
 ghost use Rattle.classes.specs.Whitespace.{isWhitespace, isHorizontalWhitespace};
 ghost use Rattle.classes.specs.Identifiers.{digit, idStart, idContinue, isIdent};
 ghost use Rattle.classes.specs.Emoji.{emojiChar};
@@ -93,7 +93,7 @@ pub fn id_start(c: CodePoint, starts: &[u32]) -> bool
     ensures { λ r. ⌜ r ≡ idStart (now (starts .entry)) c ⌝ }
 {
     if 0x80 <= c {
-        return lists::in_pairs(c, starts);
+        return ranges::in_pairs(c, starts);
     }
     if letter(c) {
         return true;
@@ -107,7 +107,7 @@ pub fn id_continue(c: CodePoint, continues: &[u32]) -> bool
     ensures { λ r. ⌜ r ≡ idContinue (now (continues .entry)) c ⌝ }
 {
     if 0x80 <= c {
-        return lists::in_pairs(c, continues);
+        return ranges::in_pairs(c, continues);
     }
     if letter(c) {
         return true;
@@ -127,15 +127,15 @@ pub fn emoji_char(c: CodePoint, emoji: &[u32]) -> bool
     if c < 0x80 {
         false
     } else {
-        lists::in_pairs(c, emoji)
+        ranges::in_pairs(c, emoji)
     }
 }
 
 // PUBLIC. Whether c starts an identifier; refusal 3 where the list breaks a rule.
 pub fn is_id_start(c: CodePoint, starts: &[u32]) -> Answer
-    ensures { λ r. do ⌜ r ≡ idStartAnswer (← ⟦lists::MAX_PAIRS⟧ .entry) (now (starts .entry)) c ⌝ }
+    ensures { λ r. do ⌜ r ≡ idStartAnswer (← ⟦ranges::MAX_PAIRS⟧ .entry) (now (starts .entry)) c ⌝ }
 {
-    match lists::check_list(0, starts) {
+    match ranges::check_list(0, starts) {
         Verdict::Fine => Answer::Is(id_start(c, starts)),
         Verdict::Refused(bad) => Answer::Refused(bad),
     }
@@ -143,9 +143,9 @@ pub fn is_id_start(c: CodePoint, starts: &[u32]) -> Answer
 
 // PUBLIC. Whether c goes on in an identifier; refusal 3 where the list breaks a rule.
 pub fn is_id_continue(c: CodePoint, continues: &[u32]) -> Answer
-    ensures { λ r. do ⌜ r ≡ idContinueAnswer (← ⟦lists::MAX_PAIRS⟧ .entry) (now (continues .entry)) c ⌝ }
+    ensures { λ r. do ⌜ r ≡ idContinueAnswer (← ⟦ranges::MAX_PAIRS⟧ .entry) (now (continues .entry)) c ⌝ }
 {
-    match lists::check_list(1, continues) {
+    match ranges::check_list(1, continues) {
         Verdict::Fine => Answer::Is(id_continue(c, continues)),
         Verdict::Refused(bad) => Answer::Refused(bad),
     }
@@ -153,9 +153,9 @@ pub fn is_id_continue(c: CodePoint, continues: &[u32]) -> Answer
 
 // PUBLIC. Whether c is an emoji character; refusal 3 where the list breaks a rule.
 pub fn is_emoji_char(c: CodePoint, emoji: &[u32]) -> Answer
-    ensures { λ r. do ⌜ r ≡ emojiAnswer (← ⟦lists::MAX_PAIRS⟧ .entry) (now (emoji .entry)) c ⌝ }
+    ensures { λ r. do ⌜ r ≡ emojiAnswer (← ⟦ranges::MAX_PAIRS⟧ .entry) (now (emoji .entry)) c ⌝ }
 {
-    match lists::check_list(2, emoji) {
+    match ranges::check_list(2, emoji) {
         Verdict::Fine => Answer::Is(emoji_char(c, emoji)),
         Verdict::Refused(bad) => Answer::Refused(bad),
     }
@@ -202,11 +202,11 @@ pub fn ident(text: &[u8], starts: &[u32], continues: &[u32]) -> bool
 
 // What `is_ident` checks: 1, 3 for its two lists, 2.
 pub fn ident_verdict(text: &[u8], starts: &[u32], continues: &[u32]) -> Verdict
-    ensures { λ r. do ⌜ r ≡ identVerdict (← ⟦lists::MAX_PAIRS⟧ .entry) (now (text .entry)) (now (starts .entry)) (now (continues .entry)) ⌝ }
+    ensures { λ r. do ⌜ r ≡ identVerdict (← ⟦ranges::MAX_PAIRS⟧ .entry) (now (text .entry)) (now (starts .entry)) (now (continues .entry)) ⌝ }
 {
     let long = text::check_length(text);
-    let first = lists::check_list(0, starts);
-    let second = lists::check_list(1, continues);
+    let first = ranges::check_list(0, starts);
+    let second = ranges::check_list(1, continues);
     let both = refusal::lists_in_order(first, second, Verdict::Fine);
     let utf8 = text::check_utf8(text);
     refusal::in_order(long, both, utf8)
@@ -214,7 +214,7 @@ pub fn ident_verdict(text: &[u8], starts: &[u32], continues: &[u32]) -> Verdict
 
 // PUBLIC. Whether a text is an identifier, as 000's `is_ident` says; refusals 1, 3 and 2 in this order.
 pub fn is_ident(text: &[u8], starts: &[u32], continues: &[u32]) -> Answer
-    ensures { λ r. do ⌜ r ≡ identAnswer (← ⟦lists::MAX_PAIRS⟧ .entry) (now (text .entry)) (now (starts .entry)) (now (continues .entry)) ⌝ }
+    ensures { λ r. do ⌜ r ≡ identAnswer (← ⟦ranges::MAX_PAIRS⟧ .entry) (now (text .entry)) (now (starts .entry)) (now (continues .entry)) ⌝ }
 {
     match ident_verdict(text, starts, continues) {
         Verdict::Fine => Answer::Is(ident(text, starts, continues)),

@@ -260,7 +260,7 @@ pub extern "C" fn lovemudarn_check(
     continues: &[u32],
     emoji: &[u32],
 ) -> Answer
-    ensures { λ r. do ⌜ r ≡ answerOf (verdictNumbers (tokenVerdict (← ⟦lists::MAX_PAIRS⟧ .entry) (now (text .entry)) (lent (now (starts .entry)) (now (continues .entry)) (now (emoji .entry))))) ⌝ }
+    ensures { λ r. do ⌜ r ≡ answerOf (verdictNumbers (tokenVerdict (← ⟦ranges::MAX_PAIRS⟧ .entry) (now (text .entry)) (lent (now (starts .entry)) (now (continues .entry)) (now (emoji .entry))))) ⌝ }
 {
     answer_of(refusal::verdict_numbers(lexer::token_verdict(text, starts, continues, emoji)))
 }
@@ -275,7 +275,7 @@ pub extern "C" fn lovemudarn_token(
     at: usize,
     on: bool,
 ) -> TokenAnswer
-    ensures { λ r. do ⌜ r ≡ tokenOut (oneToken (← ⟦lists::MAX_PAIRS⟧ .entry) (now (text .entry)) (lent (now (starts .entry)) (now (continues .entry)) (now (emoji .entry))) at on) ⌝ }
+    ensures { λ r. do ⌜ r ≡ tokenOut (oneToken (← ⟦ranges::MAX_PAIRS⟧ .entry) (now (text .entry)) (lent (now (starts .entry)) (now (continues .entry)) (now (emoji .entry))) at on) ⌝ }
 {
     token_out(lexer::advance_token(text, starts, continues, emoji, at, on))
 }
@@ -290,7 +290,7 @@ pub extern "C" fn lovemudarn_tokens(
     on: bool,
     slots: &mut [u32],
 ) -> Answer
-    ensures { λ r. do ⌜ TokensOut (← ⟦lists::MAX_PAIRS⟧ .entry) (now (text .entry)) (lent (now (starts .entry)) (now (continues .entry)) (now (emoji .entry))) on (now (slots .entry)) (now (slots .exit)) r ⌝ }
+    ensures { λ r. do ⌜ TokensOut (← ⟦ranges::MAX_PAIRS⟧ .entry) (now (text .entry)) (lent (now (starts .entry)) (now (continues .entry)) (now (emoji .entry))) on (now (slots .entry)) (now (slots .exit)) r ⌝ }
 {
     let answer = slots::tokens(text, starts, continues, emoji, on, slots);
     answer_of(plan::list_numbers(answer))
@@ -305,7 +305,7 @@ pub extern "C" fn lovemudarn_key(
     emoji: &[u32],
     out: &mut [u8],
 ) -> Answer
-    ensures { λ r. do ⌜ KeyOut (← ⟦lists::MAX_PAIRS⟧ .entry) (now (text .entry)) (lent (now (starts .entry)) (now (continues .entry)) (now (emoji .entry))) (now (out .entry)) (now (out .exit)) r ⌝ }
+    ensures { λ r. do ⌜ KeyOut (← ⟦ranges::MAX_PAIRS⟧ .entry) (now (text .entry)) (lent (now (starts .entry)) (now (continues .entry)) (now (emoji .entry))) (now (out .entry)) (now (out .exit)) r ⌝ }
 {
     let answer = key::key(text, starts, continues, emoji, out);
     answer_of(key::key_numbers(answer))
@@ -314,7 +314,7 @@ pub extern "C" fn lovemudarn_key(
 // Whether a text is an identifier: 1, 3, 2, or 0 with 1 for yes and 0 for no.
 #[no_mangle]
 pub extern "C" fn lovemudarn_is_ident(text: &[u8], starts: &[u32], continues: &[u32]) -> Answer
-    ensures { λ r. do ⌜ r ≡ answerOf (answerNumbers (identAnswer (← ⟦lists::MAX_PAIRS⟧ .entry) (now (text .entry)) (now (starts .entry)) (now (continues .entry)))) ⌝ }
+    ensures { λ r. do ⌜ r ≡ answerOf (answerNumbers (identAnswer (← ⟦ranges::MAX_PAIRS⟧ .entry) (now (text .entry)) (now (starts .entry)) (now (continues .entry)))) ⌝ }
 {
     answer_of(classes::answer_numbers(classes::is_ident(text, starts, continues)))
 }
@@ -344,7 +344,7 @@ pub extern "C" fn lovemudarn_guarded(
     continues: &[u32],
     at: usize,
 ) -> GuardedStrAnswer
-    ensures { λ r. do ⌜ r ≡ guardedOut (guardedAnswer (← ⟦lists::MAX_PAIRS⟧ .entry) (now (text .entry)) (now (starts .entry)) (now (continues .entry)) at) ⌝ }
+    ensures { λ r. do ⌜ r ≡ guardedOut (guardedAnswer (← ⟦ranges::MAX_PAIRS⟧ .entry) (now (text .entry)) (now (starts .entry)) (now (continues .entry)) at) ⌝ }
 {
     guarded_out(lexer::guarded_double_quoted_string(text, starts, continues, at))
 }
@@ -367,21 +367,21 @@ pub extern "C" fn lovemudarn_is_horizontal_whitespace(c: u32) -> bool
 // The classes of a list: 3, or 0 with 1 for yes and 0 for no.
 #[no_mangle]
 pub extern "C" fn lovemudarn_is_id_start(c: u32, starts: &[u32]) -> Answer
-    ensures { λ r. do ⌜ r ≡ answerOf (answerNumbers (idStartAnswer (← ⟦lists::MAX_PAIRS⟧ .entry) (now (starts .entry)) c)) ⌝ }
+    ensures { λ r. do ⌜ r ≡ answerOf (answerNumbers (idStartAnswer (← ⟦ranges::MAX_PAIRS⟧ .entry) (now (starts .entry)) c)) ⌝ }
 {
     answer_of(classes::answer_numbers(classes::is_id_start(c, starts)))
 }
 
 #[no_mangle]
 pub extern "C" fn lovemudarn_is_id_continue(c: u32, continues: &[u32]) -> Answer
-    ensures { λ r. do ⌜ r ≡ answerOf (answerNumbers (idContinueAnswer (← ⟦lists::MAX_PAIRS⟧ .entry) (now (continues .entry)) c)) ⌝ }
+    ensures { λ r. do ⌜ r ≡ answerOf (answerNumbers (idContinueAnswer (← ⟦ranges::MAX_PAIRS⟧ .entry) (now (continues .entry)) c)) ⌝ }
 {
     answer_of(classes::answer_numbers(classes::is_id_continue(c, continues)))
 }
 
 #[no_mangle]
 pub extern "C" fn lovemudarn_is_emoji_char(c: u32, emoji: &[u32]) -> Answer
-    ensures { λ r. do ⌜ r ≡ answerOf (answerNumbers (emojiAnswer (← ⟦lists::MAX_PAIRS⟧ .entry) (now (emoji .entry)) c)) ⌝ }
+    ensures { λ r. do ⌜ r ≡ answerOf (answerNumbers (emojiAnswer (← ⟦ranges::MAX_PAIRS⟧ .entry) (now (emoji .entry)) c)) ⌝ }
 {
     answer_of(classes::answer_numbers(classes::is_emoji_char(c, emoji)))
 }

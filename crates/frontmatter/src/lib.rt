@@ -5,7 +5,7 @@ ghost use mathlib.Core.Path.{_≡_};
 ghost use mathlib.Core.List.{[], _∷_};
 ghost use mathlib.Core.Bool.{true};
 ghost use lib.ListN.{drop};
-ghost use Rattle.lists.specs.Rules.{Good};
+ghost use Rattle.ranges.specs.Rules.{Good};
 ghost use Rattle.classes.specs.Whitespace.{isHorizontalWhitespace};
 ghost use Rattle.eaters.specs.Eat.{while};
 ghost use Rattle.eaters.specs.Look.{begins};

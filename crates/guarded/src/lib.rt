@@ -1,7 +1,7 @@
 // Guarded strings and the raw check, each proved equal to its rule in the book. Names are 000's.
 // A function that uses a lent list asks for one that was checked.
 ghost use mathlib.Core.List.{[]};
-ghost use Rattle.lists.specs.Rules.{Good};
+ghost use Rattle.ranges.specs.Rules.{Good};
 ghost use Rattle.token.specs.Lists.{lent};
 ghost use Rattle.token.specs.Guarded.{guardedRest, guard};
 ghost use Rattle.cursor.specs.Ran.{Ran};

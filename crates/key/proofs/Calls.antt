@@ -12,7 +12,7 @@ use Rattle.refusal.specs.declared.Bad.{Bad}
 use Rattle.refusal.specs.declared.Verdict.{Verdict}
 use Rattle.refusal.specs.declared.Verdict.the-variants as verdict
 use Rattle.text.specs.Chars.{WellFormed}
-use Rattle.lists.specs.Rules.{Good}
+use Rattle.ranges.specs.Rules.{Good}
 use Rattle.token.specs.Lists.{lent}
 use Rattle.lexer.specs.Answers.{tokenVerdict}
 use Rattle.lexer.proofs.Checks.{step-ready, text-well}

@@ -15,7 +15,7 @@ use Rattle.refusal.specs.Order.{listsInOrder}
 use Rattle.refusal.proofs.Orders.{first-1, first-2}
 use Rattle.text.specs.Chars.{chars, size, WellFormed}
 use Rattle.text.specs.Verdicts.{tooLong, utf8Verdict}
-use Rattle.lists.specs.Rules.{listVerdict}
+use Rattle.ranges.specs.Rules.{listVerdict}
 use Rattle.token.specs.Lists.{Lists}
 use Rattle.lexer.specs.Answers.{tokenVerdict}
 use Rattle.lexer.proofs.Checks.{step-ready}

@@ -5,7 +5,7 @@ use mathlib.Core.List.{List, _++_}
 use lib.ListN.{length, drop}
 use Rattle.eaters.specs.Find.{Place, at, nowhere}
 use Rattle.text.specs.Chars.{WellFormed}
-use Rattle.lists.specs.Rules.{Good}
+use Rattle.ranges.specs.Rules.{Good}
 use Rattle.token.specs.Lists.{Lists}
 use Rattle.canon.specs.Keyable.{brokenAt}
 use Rattle.canon.specs.Key.{keyOf}

@@ -4,7 +4,7 @@ ghost use mathlib.Core.Path.{_≡_};
 ghost use Prim.Native.Nat.{_≤_, _+_, _-_};
 ghost use lib.ListN.{length, take, drop};
 ghost use Rattle.text.specs.Chars.{WellFormed};
-ghost use Rattle.lists.specs.Rules.{Good};
+ghost use Rattle.ranges.specs.Rules.{Good};
 ghost use Rattle.token.specs.Lists.{lent};
 ghost use Rattle.puts.specs.Put.{Put};
 ghost use Rattle.canon.specs.Broken.{uncounted, brokenLiteral, isBroken};
@@ -187,7 +187,7 @@ pub fn key(
     emoji: &[u32],
     out: &mut [u8],
 ) -> KeyAnswer
-    ensures { λ r. do ⌜ Keying (← ⟦lists::MAX_PAIRS⟧ .entry) (now (text .entry)) (lent (now (starts .entry)) (now (continues .entry)) (now (emoji .entry))) (now (out .entry)) (now (out .exit)) r ⌝ }
+    ensures { λ r. do ⌜ Keying (← ⟦ranges::MAX_PAIRS⟧ .entry) (now (text .entry)) (lent (now (starts .entry)) (now (continues .entry)) (now (emoji .entry))) (now (out .entry)) (now (out .exit)) r ⌝ }
 {
     if let Verdict::Refused(bad) = lexer::token_verdict(text, starts, continues, emoji) {
         return KeyAnswer::Refused(bad);

@@ -37,7 +37,7 @@ fn key_over(
     buffer: &mut [u8],
     out: &mut [u8],
 ) -> usize
-    ensures { λ r. do ⌜ Answered (keyBytes (← ⟦lists::MAX_PAIRS⟧ .entry) (now (text .entry)) (lent (now (starts .entry)) (now (continues .entry)) (now (emoji .entry))) (now (buffer .entry))) (now (out .entry)) (now (out .exit)) r ⌝ }
+    ensures { λ r. do ⌜ Answered (keyBytes (← ⟦ranges::MAX_PAIRS⟧ .entry) (now (text .entry)) (lent (now (starts .entry)) (now (continues .entry)) (now (emoji .entry))) (now (buffer .entry))) (now (out .entry)) (now (out .exit)) r ⌝ }
 {
     let answer = key::key(text, starts, continues, emoji, buffer);
     put_keyed(out, answer, buffer)
@@ -51,7 +51,7 @@ pub fn keyed(
     emoji: &[u32],
     out: &mut [u8],
 ) -> usize
-    ensures { λ r. do ⌜ Answered (keyReply (← ⟦lists::MAX_PAIRS⟧ .entry) (lent (now (starts .entry)) (now (continues .entry)) (now (emoji .entry))) (now (input .entry))) (now (out .entry)) (now (out .exit)) r ⌝ }
+    ensures { λ r. do ⌜ Answered (keyReply (← ⟦ranges::MAX_PAIRS⟧ .entry) (lent (now (starts .entry)) (now (continues .entry)) (now (emoji .entry))) (now (input .entry))) (now (out .entry)) (now (out .exit)) r ⌝ }
 {
     if input.len() < 8 {
         return 0;

@@ -21,8 +21,8 @@ use Rattle.text.specs.Chars.{chars, size, WellFormed}
 use Rattle.text.specs.Position.{onBoundary, startsHere}
 use Rattle.text.specs.Verdicts.{tooLong, utf8Verdict}
 use Rattle.text.proofs.Positions.{boundary-byte}
-use Rattle.lists.specs.Rules.{listVerdict, Good}
-use Rattle.lists.proofs.Laws.{fine-good}
+use Rattle.ranges.specs.Rules.{listVerdict, Good}
+use Rattle.ranges.proofs.Laws.{fine-good}
 use Rattle.token.specs.Lists.{lent}
 use Rattle.lexer.specs.declared.Scan.{Scan}
 use Rattle.lexer.specs.declared.OneToken.{OneToken}

@@ -18,7 +18,7 @@ use Rattle.text.specs.Chars.{chars}
 use Rattle.text.specs.Position.{onBoundary, startsHere}
 use Rattle.text.specs.Verdicts.{tooLong, utf8Verdict, textVerdict}
 use Rattle.text.proofs.Positions.{boundary-byte}
-use Rattle.lists.specs.Rules.{listVerdict, Good}
+use Rattle.ranges.specs.Rules.{listVerdict, Good}
 use Rattle.classes.specs.Answers.{identVerdict}
 use Rattle.classes.proofs.Checks.{ident-starts, ident-continues}
 use Rattle.token.specs.declared.RawStr.{RawStr}

@@ -10,7 +10,7 @@ use Rattle.refusal.specs.Numbers.{numbers, badNumbers}
 use Rattle.refusal.specs.Order.{inOrder, listsInOrder}
 use Rattle.text.specs.Position.{onBoundary}
 use Rattle.text.specs.Verdicts.{tooLong, utf8Verdict}
-use Rattle.lists.specs.Rules.{listVerdict}
+use Rattle.ranges.specs.Rules.{listVerdict}
 use Rattle.token.specs.Lists.{Lists}
 use Rattle.lexer.specs.declared.OneToken.{OneToken}
 use Rattle.lexer.specs.declared.OneToken.the-variants.{Given, Position, Refused}

@@ -6,7 +6,7 @@ ghost use lib.ListN.{length};
 ghost use Rattle.eaters.specs.Look.{begins};
 ghost use Rattle.refusal.specs.Numbers.{numbers};
 ghost use Rattle.text.specs.Position.{startsHere};
-ghost use Rattle.lists.specs.Rules.{Good};
+ghost use Rattle.ranges.specs.Rules.{Good};
 ghost use Rattle.token.specs.Lists.{lent};
 ghost use Rattle.token.specs.Names.{'r'};
 ghost use Rattle.cursor.specs.Ran.{kindFrom};
@@ -148,12 +148,12 @@ pub fn token_numbers(answer: OneToken) -> Numbers
 
 // What the one-token call checks of a text and three lists: 1, 3, 2.
 pub fn token_verdict(text: &[u8], starts: &[u32], continues: &[u32], emoji: &[u32]) -> Verdict
-    ensures { λ r. do ⌜ r ≡ tokenVerdict (← ⟦lists::MAX_PAIRS⟧ .entry) (now (text .entry)) (lent (now (starts .entry)) (now (continues .entry)) (now (emoji .entry))) ⌝ }
+    ensures { λ r. do ⌜ r ≡ tokenVerdict (← ⟦ranges::MAX_PAIRS⟧ .entry) (now (text .entry)) (lent (now (starts .entry)) (now (continues .entry)) (now (emoji .entry))) ⌝ }
 {
     let long = text::check_length(text);
-    let first = lists::check_list(0, starts);
-    let second = lists::check_list(1, continues);
-    let third = lists::check_list(2, emoji);
+    let first = ranges::check_list(0, starts);
+    let second = ranges::check_list(1, continues);
+    let third = ranges::check_list(2, emoji);
     let listed = refusal::lists_in_order(first, second, third);
     let utf8 = text::check_utf8(text);
     refusal::in_order(long, listed, utf8)
@@ -185,7 +185,7 @@ pub fn advance_token(
     at: usize,
     on: bool,
 ) -> OneToken
-    ensures { λ r. do ⌜ r ≡ oneToken (← ⟦lists::MAX_PAIRS⟧ .entry) (now (text .entry)) (lent (now (starts .entry)) (now (continues .entry)) (now (emoji .entry))) at on ⌝ }
+    ensures { λ r. do ⌜ r ≡ oneToken (← ⟦ranges::MAX_PAIRS⟧ .entry) (now (text .entry)) (lent (now (starts .entry)) (now (continues .entry)) (now (emoji .entry))) at on ⌝ }
 {
     match token_verdict(text, starts, continues, emoji) {
         Verdict::Fine => {
@@ -364,7 +364,7 @@ pub fn guarded_double_quoted_string(
     continues: &[u32],
     at: usize,
 ) -> GuardedAnswer
-    ensures { λ r. do ⌜ r ≡ guardedAnswer (← ⟦lists::MAX_PAIRS⟧ .entry) (now (text .entry)) (now (starts .entry)) (now (continues .entry)) at ⌝ }
+    ensures { λ r. do ⌜ r ≡ guardedAnswer (← ⟦ranges::MAX_PAIRS⟧ .entry) (now (text .entry)) (now (starts .entry)) (now (continues .entry)) at ⌝ }
 {
     match classes::ident_verdict(text, starts, continues) {
         Verdict::Fine => {

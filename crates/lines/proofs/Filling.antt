@@ -10,7 +10,7 @@ use lib.Seq.{length-take-le}
 use native.Mathlib.Omega.{arith}
 use Rattle.text.specs.Chars.{chars, size}
 use Rattle.text.proofs.Texts.{width-some}
-use Rattle.lists.specs.Rules.{flawFrom, Good}
+use Rattle.ranges.specs.Rules.{flawFrom, Good}
 use Rattle.token.specs.declared.Token.{Token}
 use Rattle.token.specs.Advance.{advance}
 use Rattle.token.specs.Tokens.{tokensAfter, tokens, placed}
@@ -18,7 +18,7 @@ use Rattle.token.proofs.Cover.{advance-some, off-stays}
 use Rattle.lexer.specs.declared.Scan.{Scan}
 use Rattle.lexer.specs.Scans.{bytesOf, scanAt, recordsFrom}
 use Rattle.lexer.proofs.Records.{past-token, step-records}
-use Rattle.names.specs.Line.{line}
+use Rattle.token_line.specs.Line.{line}
 use Rattle.puts.specs.Put.{PutFew}
 use Rattle.puts.proofs.Puts.{put-take, put-drop, put-length, kept-on}
 use Rattle.token.specs.Lists.{none}

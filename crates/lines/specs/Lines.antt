@@ -8,7 +8,7 @@ use Rattle.basics.specs.Choice.{pick}
 use Rattle.token.specs.declared.Token.{Token}
 use Rattle.token.specs.Lists.{none}
 use Rattle.lexer.specs.Scans.{recordsFrom}
-use Rattle.names.specs.Line.{line}
+use Rattle.token_line.specs.Line.{line}
 
 -- the tokens of a text from a position on
 abbrev pub tokensFrom : (s : List ℕ) (at : ℕ) → List Token

@@ -37,7 +37,7 @@ pub fn fill(text: &[u8], at: usize, out: &mut [u8]) -> Chunk
             break;
         }
         let kind = token.kind;
-        used = names::put_line(out, used, kind, token.len);
+        used = token_line::put_line(out, used, kind, token.len);
         next = scan.next;
     }
     Chunk { next, used }

@@ -42,7 +42,7 @@ pub fn tokenize(
     on: bool,
     out: &mut [Token],
 ) -> ListAnswer
-    ensures { λ r. do ⌜ Tokenized (← ⟦lists::MAX_PAIRS⟧ .entry) (now (text .entry)) (lent (now (starts .entry)) (now (continues .entry)) (now (emoji .entry))) on (now (out .entry)) r (now (out .exit)) ⌝ }
+    ensures { λ r. do ⌜ Tokenized (← ⟦ranges::MAX_PAIRS⟧ .entry) (now (text .entry)) (lent (now (starts .entry)) (now (continues .entry)) (now (emoji .entry))) on (now (out .entry)) r (now (out .exit)) ⌝ }
 {
     let p = plan::plan_list(text, starts, continues, emoji, on, out.len());
     fill(text, starts, continues, emoji, p.first, out, p.n);
@@ -74,7 +74,7 @@ pub fn tokenize_64(
     on: bool,
     blank: Token,
 ) -> Records
-    ensures { λ r. do ⌜ r ≡ recordsOf (← ⟦lists::MAX_PAIRS⟧ .entry) (now (text .entry)) (lent (now (starts .entry)) (now (continues .entry)) (now (emoji .entry))) on blank ⌝ }
+    ensures { λ r. do ⌜ r ≡ recordsOf (← ⟦ranges::MAX_PAIRS⟧ .entry) (now (text .entry)) (lent (now (starts .entry)) (now (continues .entry)) (now (emoji .entry))) on blank ⌝ }
 {
     let mut tokens = [blank; 64];
     let answer = tokenize(text, starts, continues, emoji, on, &mut tokens);

@@ -64,7 +64,7 @@ pub fn listed(
     emoji: &[u32],
     out: &mut [u8],
 ) -> usize
-    ensures { λ r. do ⌜ Answered (listReply (← ⟦lists::MAX_PAIRS⟧ .entry) (lent (now (starts .entry)) (now (continues .entry)) (now (emoji .entry))) (now (input .entry))) (now (out .entry)) (now (out .exit)) r ⌝ }
+    ensures { λ r. do ⌜ Answered (listReply (← ⟦ranges::MAX_PAIRS⟧ .entry) (lent (now (starts .entry)) (now (continues .entry)) (now (emoji .entry))) (now (input .entry))) (now (out .entry)) (now (out .exit)) r ⌝ }
 {
     if input.len() < 4 {
         return 0;
@@ -82,7 +82,7 @@ pub fn slots(
     emoji: &[u32],
     out: &mut [u8],
 ) -> usize
-    ensures { λ r. do ⌜ Answered (slotsReply (← ⟦lists::MAX_PAIRS⟧ .entry) (lent (now (starts .entry)) (now (continues .entry)) (now (emoji .entry))) (now (input .entry))) (now (out .entry)) (now (out .exit)) r ⌝ }
+    ensures { λ r. do ⌜ Answered (slotsReply (← ⟦ranges::MAX_PAIRS⟧ .entry) (lent (now (starts .entry)) (now (continues .entry)) (now (emoji .entry))) (now (input .entry))) (now (out .entry)) (now (out .exit)) r ⌝ }
 {
     if input.len() < 8 {
         return 0;

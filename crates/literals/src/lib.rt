@@ -1,7 +1,7 @@
 // Literals with their suffixes: bytes and C strings are forms of the same scans, by a small choice. Each function is proved equal to its rule in the book.
 ghost use mathlib.Core.Path.{_≡_};
 ghost use mathlib.Core.List.{[]};
-ghost use Rattle.lists.specs.Rules.{Good};
+ghost use Rattle.ranges.specs.Rules.{Good};
 ghost use Rattle.token.specs.Lists.{lent};
 ghost use Rattle.token.specs.Numbers.{number};
 ghost use Rattle.token.specs.Quotes.{singleQuoted, doubleQuoted};
@@ -143,7 +143,7 @@ pub fn number_literal(
     requires { ⌜ Good (now starts) × Good (now continues) ⌝ }
     ensures { λ r. ⌜ LiteralRan (lent (now (starts .entry)) (now (continues .entry)) []) (number (lent (now (starts .entry)) [] []) first) (now (text .entry)) from r ⌝ }
 {
-    let numeral = number::number(text, from, first, starts);
+    let numeral = numerals::number(text, from, first, starts);
     let kind = numeral.kind;
     let next = numeral.next;
     eat_literal_suffix(text, kind, next, true, starts, continues)

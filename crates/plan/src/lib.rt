@@ -3,7 +3,7 @@ ghost use mathlib.Core.Path.{_≡_};
 ghost use Prim.Native.Nat.{_≤_};
 ghost use lib.ListN.{length};
 ghost use Rattle.text.specs.Chars.{WellFormed};
-ghost use Rattle.lists.specs.Rules.{Good};
+ghost use Rattle.ranges.specs.Rules.{Good};
 ghost use Rattle.token.specs.Lists.{lent};
 ghost use Rattle.token.specs.Tokens.{records};
 ghost use Rattle.plan.specs.Steps.{startOf, nextOf};
@@ -103,7 +103,7 @@ pub fn plan_list(
     on: bool,
     slots: usize,
 ) -> Plan
-    ensures { λ r. do ⌜ r ≡ planOf (← ⟦lists::MAX_PAIRS⟧ .entry) (now (text .entry)) (lent (now (starts .entry)) (now (continues .entry)) (now (emoji .entry))) on slots ⌝ }
+    ensures { λ r. do ⌜ r ≡ planOf (← ⟦ranges::MAX_PAIRS⟧ .entry) (now (text .entry)) (lent (now (starts .entry)) (now (continues .entry)) (now (emoji .entry))) on slots ⌝ }
 {
     match lexer::token_verdict(text, starts, continues, emoji) {
         Verdict::Fine => {

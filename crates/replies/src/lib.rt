@@ -6,7 +6,7 @@ ghost use Prim.Native.Nat.{_≤_};
 ghost use mathlib.Core.Path.{_≡_};
 ghost use lib.ListN.{length};
 ghost use Rattle.basics.specs.Choice.{pick};
-ghost use Rattle.lists.specs.Rules.{Good};
+ghost use Rattle.ranges.specs.Rules.{Good};
 ghost use Rattle.token.specs.Lists.{lent};
 ghost use Rattle.refusal.specs.Numbers.{numbers, badNumbers};
 ghost use Rattle.lexer.specs.Shebangs.{shebangNumbers};
@@ -110,7 +110,7 @@ pub fn one_token(
     emoji: &[u32],
     out: &mut [u8],
 ) -> usize
-    ensures { λ r. do ⌜ Answered (oneReply (← ⟦lists::MAX_PAIRS⟧ .entry) (lent (now (starts .entry)) (now (continues .entry)) (now (emoji .entry))) (now (input .entry))) (now (out .entry)) (now (out .exit)) r ⌝ }
+    ensures { λ r. do ⌜ Answered (oneReply (← ⟦ranges::MAX_PAIRS⟧ .entry) (lent (now (starts .entry)) (now (continues .entry)) (now (emoji .entry))) (now (input .entry))) (now (out .entry)) (now (out .exit)) r ⌝ }
 {
     if input.len() < 8 {
         return 0;
@@ -143,7 +143,7 @@ fn put_tokens(
     emoji: &[u32],
     out: &mut [u8],
 ) -> usize
-    ensures { λ r. do ⌜ Told (callWalk (← ⟦lists::MAX_PAIRS⟧ .entry) (lent (now (starts .entry)) (now (continues .entry)) (now (emoji .entry))) (now (text .entry)) first) (now (out .exit)) r ⌝ }
+    ensures { λ r. do ⌜ Told (callWalk (← ⟦ranges::MAX_PAIRS⟧ .entry) (lent (now (starts .entry)) (now (continues .entry)) (now (emoji .entry))) (now (text .entry)) first) (now (out .exit)) r ⌝ }
 {
     let mut at = 0;
     let mut on = first;
@@ -181,7 +181,7 @@ pub fn tokens(
     emoji: &[u32],
     out: &mut [u8],
 ) -> usize
-    ensures { λ r. do ⌜ Told (tokensReply (← ⟦lists::MAX_PAIRS⟧ .entry) (lent (now (starts .entry)) (now (continues .entry)) (now (emoji .entry))) (now (input .entry))) (now (out .exit)) r ⌝ }
+    ensures { λ r. do ⌜ Told (tokensReply (← ⟦ranges::MAX_PAIRS⟧ .entry) (lent (now (starts .entry)) (now (continues .entry)) (now (emoji .entry))) (now (input .entry))) (now (out .exit)) r ⌝ }
 {
     if input.len() < 4 {
         return 0;
@@ -301,7 +301,7 @@ fn put_guarded(out: &mut [u8], answer: GuardedAnswer) -> usize
 
 // Operation 13: the guarded string at a position.
 pub fn guarded_string(input: &[u8], starts: &[u32], continues: &[u32], out: &mut [u8]) -> usize
-    ensures { λ r. do ⌜ Answered (guardedReply (← ⟦lists::MAX_PAIRS⟧ .entry) (now (starts .entry)) (now (continues .entry)) (now (input .entry))) (now (out .entry)) (now (out .exit)) r ⌝ }
+    ensures { λ r. do ⌜ Answered (guardedReply (← ⟦ranges::MAX_PAIRS⟧ .entry) (now (starts .entry)) (now (continues .entry)) (now (input .entry))) (now (out .entry)) (now (out .exit)) r ⌝ }
 {
     if input.len() < 4 {
         return 0;
@@ -355,7 +355,7 @@ pub fn tokens_once(
     emoji: &[u32],
     out: &mut [u8],
 ) -> usize
-    ensures { λ r. do ⌜ Told (onceReply (← ⟦lists::MAX_PAIRS⟧ .entry) (lent (now (starts .entry)) (now (continues .entry)) (now (emoji .entry))) (now (input .entry))) (now (out .exit)) r ⌝ }
+    ensures { λ r. do ⌜ Told (onceReply (← ⟦ranges::MAX_PAIRS⟧ .entry) (lent (now (starts .entry)) (now (continues .entry)) (now (emoji .entry))) (now (input .entry))) (now (out .exit)) r ⌝ }
 {
     if input.len() < 4 {
         return 0;

@@ -7,7 +7,7 @@ use lib.ListN.{length}
 use native.Mathlib.Omega.{arith}
 use borrow.Author.Tests.{not-true, not-false}
 use Rattle.basics.specs.Choice.{pick}
-use Rattle.lists.specs.Rules.{Good, flawFrom}
+use Rattle.ranges.specs.Rules.{Good, flawFrom}
 use Rattle.eaters.specs.Eat.{choose}
 use Rattle.token.specs.declared.LiteralKind.{LiteralKind}
 use Rattle.token.specs.declared.TokenKind.{TokenKind}

@@ -5,7 +5,7 @@ use mathlib.Core.Bool.{Bool}
 use mathlib.Core.List.{List, _++_}
 use lib.ListN.{length, drop}
 use Rattle.text.specs.Chars.{WellFormed}
-use Rattle.lists.specs.Rules.{Good}
+use Rattle.ranges.specs.Rules.{Good}
 use Rattle.token.specs.declared.Token.{Token}
 use Rattle.token.specs.Lists.{Lists}
 use Rattle.token.specs.Tokens.{records}

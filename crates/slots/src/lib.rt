@@ -61,7 +61,7 @@ pub fn tokens(
     on: bool,
     slots: &mut [u32],
 ) -> ListAnswer
-    ensures { λ r. do ⌜ Slotted (← ⟦lists::MAX_PAIRS⟧ .entry) (now (text .entry)) (lent (now (starts .entry)) (now (continues .entry)) (now (emoji .entry))) on (now (slots .entry)) (now (slots .exit)) r ⌝ }
+    ensures { λ r. do ⌜ Slotted (← ⟦ranges::MAX_PAIRS⟧ .entry) (now (text .entry)) (lent (now (starts .entry)) (now (continues .entry)) (now (emoji .entry))) on (now (slots .entry)) (now (slots .exit)) r ⌝ }
 {
     let plan = plan::plan_list(text, starts, continues, emoji, on, slots.len() / 4);
     let answer = plan.answer;

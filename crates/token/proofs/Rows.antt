@@ -6,7 +6,7 @@ use mathlib.Core.List.{List, [], _∷_}
 use lib.ListN.{getD, drop}
 use Rattle.text.specs.Utf8.{byte, two, three, four, lead, decoded}
 use Rattle.text.specs.Chars.{charsAfter, chars, width}
-use Rattle.lists.specs.Search.{inPairs}
+use Rattle.ranges.specs.Search.{inPairs}
 use Rattle.classes.specs.Whitespace.{isWhitespace, isHorizontalWhitespace}
 use Rattle.classes.specs.Identifiers.{letter, idStart, idContinue}
 use Rattle.classes.specs.Emoji.{emojiChar}

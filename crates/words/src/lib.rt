@@ -2,7 +2,7 @@
 // A function that uses a lent list asks for one that was checked.
 ghost use mathlib.Core.Path.{_≡_};
 ghost use mathlib.Core.List.{[]};
-ghost use Rattle.lists.specs.Rules.{Good};
+ghost use Rattle.ranges.specs.Rules.{Good};
 ghost use Rattle.classes.specs.Identifiers.{idContinue};
 ghost use Rattle.eaters.specs.Eat.{while};
 ghost use Rattle.token.specs.Lists.{lent};

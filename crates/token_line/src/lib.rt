@@ -1,0 +1,92 @@
+// The line that is printed for a token, put into a lent buffer: the name of its kind, a tab, its length in decimal, a newline.
+ghost use Prim.Native.Nat.{_+_, _≤_};
+ghost use lib.ListN.{length};
+ghost use Rattle.token.specs.Kinds.{kindName};
+ghost use Rattle.token_line.specs.Line.{decimal, line};
+ghost use Rattle.puts.specs.Put.{PutFew};
+use token::TokenKind;
+
+// A number in decimal. A u32 has at most ten digits.
+fn put_decimal(out: &mut [u8], at: usize, n: u32) -> usize
+    requires { ⌜ at + 10 ≤ length (now out) ⌝ }
+    ensures { λ r. ⌜ PutFew 10 (decimal n) (now (out .entry)) at (now (out .exit)) r ⌝ }
+{
+    let mut text = [0u8; 20];
+    let k = io::decimal(n as u64, &mut text);
+    puts::put_bytes(out, at, &text[..k])
+}
+
+// The names of the kinds, one after the other in the order of 000, and where each starts; the last number is the end.
+const NAMES: [u8; 322] =
+    *b"LineCommentBlockCommentWhitespaceFrontmatterIdentInvalidIdentRawIdentForcedKeywordIdentUnknownPrefixUnknownPrefixLifetimeRawLifetimeGuardedStrPrefixLiteralLifetimeSemiCommaDotOpenParenCloseParenOpenBraceCloseBraceOpenBracketCloseBracketAtPoundTildeQuestionColonDollarEqBangLtGtMinusAndOrPlusStarSlashCaretPercentUnknownEof";
+
+const STARTS: [usize; 44] = [
+    0,
+    11,
+    23,
+    33,
+    44,
+    49,
+    61,
+    69,
+    87,
+    100,
+    121,
+    132,
+    148,
+    155,
+    163,
+    167,
+    172,
+    175,
+    184,
+    194,
+    203,
+    213,
+    224,
+    236,
+    238,
+    243,
+    248,
+    256,
+    261,
+    267,
+    269,
+    273,
+    275,
+    277,
+    282,
+    285,
+    287,
+    291,
+    295,
+    300,
+    305,
+    312,
+    319,
+    322,
+];
+
+// The name of a kind. The longest has 21 bytes.
+fn put_name(out: &mut [u8], at: usize, kind: TokenKind) -> usize
+    requires { ⌜ at + 21 ≤ length (now out) ⌝ }
+    ensures { λ r. ⌜ PutFew 21 (kindName kind) (now (out .entry)) at (now (out .exit)) r ⌝ }
+{
+    let n = codes::kind_number(kind) as usize;
+    let names = NAMES;
+    let starts = STARTS;
+    let from = starts[n];
+    let to = starts[n + 1];
+    puts::put_bytes(out, at, &names[from..to])
+}
+
+// The line of a token, and the place past it. A line has at most 33 bytes.
+pub fn put_line(out: &mut [u8], at: usize, kind: TokenKind, len: u32) -> usize
+    requires { ⌜ at + 33 ≤ length (now out) ⌝ }
+    ensures { λ r. ⌜ PutFew 33 (line kind len) (now (out .entry)) at (now (out .exit)) r ⌝ }
+{
+    let tab = put_name(out, at, kind);
+    let digits = puts::put_byte(out, tab, 9);
+    let end = put_decimal(out, digits, len);
+    puts::put_byte(out, end, 10)
+}
