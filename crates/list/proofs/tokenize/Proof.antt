@@ -141,7 +141,7 @@ module _ {M : Type 1} (𝓤 : URA M) (H : Heap 𝓤) (A : Atoms 𝓤) (W : Given
 
   -- what the code of the limit gives, as the plan's promise asks it
   abbrev Gives : ℕ → Type 1
-  Gives m = gives 𝓤 H A run (plan.⟦lists·MAX-PAIRS⟧-code κs′) tt m
+  Gives m = gives 𝓤 H A run (plan.⟦ranges·MAX-PAIRS⟧-code κs′) tt m
 
   abbrev Limit : ℕ → SProp 𝓤
   Limit m = fact 𝓤 (Gives m)
@@ -167,9 +167,9 @@ module _ {M : Type 1} (𝓤 : URA M) (H : Heap 𝓤) (A : Atoms 𝓤) (W : Given
   abbrev Says : ListAnswer → List Token → ℕ → SProp 𝓤
   Says r zs m = fact 𝓤 ((r ≡ listAnswer m (bytesOf xs) (listsOf xs) on (length ys)) × (zs ≡ listed r (records (listsOf xs) on (bytesOf xs)) ys))
 
-  says-it : (m : ℕ) → Gives m → (zs : List Token) → zs ≡ written m → ent 𝓤 (emp 𝓤) (asked 𝓤 H A run (tokenize.⟦lists·MAX-PAIRS⟧-code κs) tt (Says (pl m .answer) zs))
+  says-it : (m : ℕ) → Gives m → (zs : List Token) → zs ≡ written m → ent 𝓤 (emp 𝓤) (asked 𝓤 H A run (tokenize.⟦ranges·MAX-PAIRS⟧-code κs) tt (Says (pl m .answer) zs))
   says-it m g zs e = via 𝓤 (Says (pl m .answer) zs m) (factI 𝓤 _ (emp 𝓤) (refl, e ∙ plan-listed m (bytesOf xs) (listsOf xs) on (length ys) ys))
-      (ask-in 𝓤 H A (tokenize.⟦lists·MAX-PAIRS⟧-code κs .signature) (run (routine.over (tokenize.⟦lists·MAX-PAIRS⟧-code κs .env) (tokenize.⟦lists·MAX-PAIRS⟧-code κs .code))) tt tt m g (Says (pl m .answer) zs))
+      (ask-in 𝓤 H A (tokenize.⟦ranges·MAX-PAIRS⟧-code κs .signature) (run (routine.over (tokenize.⟦ranges·MAX-PAIRS⟧-code κs .env) (tokenize.⟦ranges·MAX-PAIRS⟧-code κs .code))) tt tt m g (Says (pl m .answer) zs))
 
   exits : (m : ℕ) (zs : List Token) → zs ≡ written m → length zs ≡ length ys → Is N.the-row (pl m .answer) (nval m ∷ []) → Gives m
       → ent 𝓤 (⋆ 𝓤 H A (‵ (finally T.the-row γ zs) ∷ ‵ (Lent ks xs) ∷ Toks5 ∷ [])) (Post (nval m))
@@ -204,7 +204,7 @@ module _ {M : Type 1} (𝓤 : URA M) (H : Heap 𝓤) (A : Atoms 𝓤) (W : Given
   Planned r m = fact 𝓤 (r ≡ pl m)
 
   said-plan : (r : Plan) → ent 𝓤 (ensured 𝓤 H A plan.ended (plan.clauses 𝓤 H A mem run) κs′ to-plan-args tt r) (ex 𝓤 (λ (m : ℕ). sep 𝓤 (Limit m) (Planned r m)))
-  said-plan r = exE 𝓤 _ (λ ws. via 𝓤 (asked 𝓤 H A run (plan.⟦lists·MAX-PAIRS⟧-code κs′) tt (Planned r)) (snd∗ 𝓤 (sem 𝓤 H A (lasts plan.ended κs′ to-plan-args ws)) (asked 𝓤 H A run (plan.⟦lists·MAX-PAIRS⟧-code κs′) tt (Planned r)))
+  said-plan r = exE 𝓤 _ (λ ws. via 𝓤 (asked 𝓤 H A run (plan.⟦ranges·MAX-PAIRS⟧-code κs′) tt (Planned r)) (snd∗ 𝓤 (sem 𝓤 H A (lasts plan.ended κs′ to-plan-args ws)) (asked 𝓤 H A run (plan.⟦ranges·MAX-PAIRS⟧-code κs′) tt (Planned r)))
       (exE 𝓤 _ (λ m. via 𝓤 (sep 𝓤 (Limit m) (Planned r m)) (fact-hold 𝓤 (Gives m) (Planned r m)) (exI 𝓤 (λ (k : ℕ). sep 𝓤 (Limit k) (Planned r k)) m))))
 
   plan-is : (m : ℕ) (r : Plan) (u : Val) → r ≡ pl m → Is P.the-row r (u ∷ []) → Is P.the-row (pl m) (pvals (pl m))

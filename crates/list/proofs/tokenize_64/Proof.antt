@@ -187,7 +187,7 @@ module _ {M : Type 1} (𝓤 : URA M) (H : Heap 𝓤) (A : Atoms 𝓤) (W : Given
 
   -- what the code of the limit gives
   abbrev Gives : ℕ → Type 1
-  Gives m = gives 𝓤 H A run (tokenize-64.⟦lists·MAX-PAIRS⟧-code κs) tt m
+  Gives m = gives 𝓤 H A run (tokenize-64.⟦ranges·MAX-PAIRS⟧-code κs) tt m
 
   abbrev Limit : ℕ → SProp 𝓤
   Limit m = fact 𝓤 (Gives m)
@@ -258,7 +258,7 @@ module _ {M : Type 1} (𝓤 : URA M) (H : Heap 𝓤) (A : Atoms 𝓤) (W : Given
 
   -- what the call says, as it asks the limit
   abbrev Asked : Lft → ListAnswer → List Token → SProp 𝓤
-  Asked κ r zs = asks-of 𝓤 H A run (tokenize.⟦lists·MAX-PAIRS⟧-code (κs5 κ)) tt (λ (m : ℕ). fact 𝓤 (Told r zs m))
+  Asked κ r zs = asks-of 𝓤 H A run (tokenize.⟦ranges·MAX-PAIRS⟧-code (κs5 κ)) tt (λ (m : ℕ). fact 𝓤 (Told r zs m))
 
   said : (κ : Lft) (r : ListAnswer) (zs : List Token) → ent 𝓤 (Asked κ r zs) (ex 𝓤 (λ (m : ℕ). sep 𝓤 (Limit m) (fact 𝓤 (Told r zs m))))
   said κ r zs = exE 𝓤 _ (λ m. via 𝓤 (sep 𝓤 (Limit m) (fact 𝓤 (Told r zs m))) (fact-hold 𝓤 (Gives m) (fact 𝓤 (Told r zs m))) (exI 𝓤 (λ (k : ℕ). sep 𝓤 (Limit k) (fact 𝓤 (Told r zs k))) m))
@@ -267,9 +267,9 @@ module _ {M : Type 1} (𝓤 : URA M) (H : Heap 𝓤) (A : Atoms 𝓤) (W : Given
   abbrev Says : Records → ℕ → SProp 𝓤
   Says d m = fact 𝓤 (d ≡ recordsOf m (bytesOf xs) (listsOf xs) on t)
 
-  says-it : (m : ℕ) → Gives m → (d : Records) → d ≡ recordsOf m (bytesOf xs) (listsOf xs) on t → ent 𝓤 (emp 𝓤) (asks-of 𝓤 H A run (tokenize-64.⟦lists·MAX-PAIRS⟧-code κs) tt (Says d))
+  says-it : (m : ℕ) → Gives m → (d : Records) → d ≡ recordsOf m (bytesOf xs) (listsOf xs) on t → ent 𝓤 (emp 𝓤) (asks-of 𝓤 H A run (tokenize-64.⟦ranges·MAX-PAIRS⟧-code κs) tt (Says d))
   says-it m g d e = via 𝓤 (Says d m) (factI 𝓤 _ (emp 𝓤) e)
-      (ask-in 𝓤 H A (tokenize-64.⟦lists·MAX-PAIRS⟧-code κs .signature) (run (routine.over (tokenize-64.⟦lists·MAX-PAIRS⟧-code κs .env) (tokenize-64.⟦lists·MAX-PAIRS⟧-code κs .code))) tt tt m g (Says d))
+      (ask-in 𝓤 H A (tokenize-64.⟦ranges·MAX-PAIRS⟧-code κs .signature) (run (routine.over (tokenize-64.⟦ranges·MAX-PAIRS⟧-code κs .env) (tokenize-64.⟦ranges·MAX-PAIRS⟧-code κs .code))) tt tt m g (Says d))
 
   exits : (m : ℕ) (r : ListAnswer) (zs : List Token) (u v : Val) → Told r zs m → Is N.the-row r (u ∷ []) → Is (Array T.the-row cap) zs (v ∷ []) → Gives m
       → ent 𝓤 (⋆ 𝓤 H A (‵ (Lent ks xs) ∷ Toks ks qs ∷ [])) (Post (vstruct (vcons u (vcons v vnil))))
