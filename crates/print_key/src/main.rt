@@ -7,21 +7,13 @@ ghost use lib.ListN.{length};
 use key::KeyAnswer;
 use libc::STDIN_FILENO;
 use libc::STDOUT_FILENO;
-use refusal::Numbers;
+use refusal::Bad;
 
-// Zeros for the input and one byte more, which tells longer input. Only the length is told, so that no proof unfolds the zeros.
+// Zeros for the input and one byte more, which shows that input is longer. Only the length is promised, so that no proof unfolds the zeros.
 fn input_room() -> [u8; 65537]
     ensures { λ r. ⌜ 65537 ≡ length r ⌝ }
 {
     [0; 65537]
-}
-
-fn say_refused(n: Numbers) {
-    io::write_all(STDOUT_FILENO, b"refused\t");
-    io::print_decimal(STDOUT_FILENO, n.number as u64);
-    io::write_all(STDOUT_FILENO, b"\t");
-    io::print_decimal(STDOUT_FILENO, n.beside as u64);
-    io::write_all(STDOUT_FILENO, b"\n");
 }
 
 // Writes the key of a text, or why it has none. A key is no longer than its text: the room of 65,536 bytes is enough.
@@ -33,7 +25,7 @@ fn say_key(text: &[u8]) {
         KeyAnswer::Keyed(bytes) => {
             io::write_all(STDOUT_FILENO, &out[..bytes]);
         }
-        _ => say_refused(key::key_numbers(answer)),
+        _ => reports::say_refused(key::key_numbers(answer)),
     }
 }
 
@@ -41,7 +33,7 @@ fn main() {
     let mut buf = input_room();
     let n = io::read_full(STDIN_FILENO, &mut buf);
     if 65536 < n {
-        say_refused(refusal::bad_numbers(refusal::Bad::TooLong));
+        reports::say_bad(Bad::TooLong);
         return;
     }
     say_key(&buf[..n]);

@@ -1,4 +1,4 @@
-// The tokens of standard input, with empty lists and frontmatter off: a line a token, its kind and its length in bytes parted by a tab.
+// The tokens of standard input, with empty lists and frontmatter off: a line a token, its kind and its length in bytes separated by a tab.
 // More than 65,536 bytes are refused as too long: `refused`, a tab, 1, a tab, 0. Input that is not UTF-8 is refused likewise, as 2 and
 // with the place of the first ill-formed sequence. A refused input gives no other line.
 ghost use mathlib.Core.Path.{_≡_};
@@ -6,10 +6,10 @@ ghost use Prim.Native.Nat.{_≤_};
 ghost use lib.ListN.{length};
 use libc::STDIN_FILENO;
 use libc::STDOUT_FILENO;
-use refusal::Numbers;
+use refusal::Bad;
 use refusal::Verdict;
 
-// Zeros for the input and one byte more, which tells longer input. Only the length is told, so that no proof unfolds the zeros.
+// Zeros for the input and one byte more, which shows that input is longer. Only the length is promised, so that no proof unfolds the zeros.
 fn input_room() -> [u8; 65537]
     ensures { λ r. ⌜ 65537 ≡ length r ⌝ }
 {
@@ -21,14 +21,6 @@ fn output_room() -> [u8; 16384]
     ensures { λ r. ⌜ 16384 ≡ length r ⌝ }
 {
     [0; 16384]
-}
-
-fn say_refused(n: Numbers) {
-    io::write_all(STDOUT_FILENO, b"refused\t");
-    io::print_decimal(STDOUT_FILENO, n.number as u64);
-    io::write_all(STDOUT_FILENO, b"\t");
-    io::print_decimal(STDOUT_FILENO, n.beside as u64);
-    io::write_all(STDOUT_FILENO, b"\n");
 }
 
 // Writes the lines part by part, each as long as the room. A part that stands still is the end.
@@ -52,11 +44,11 @@ fn main() {
     let mut buf = input_room();
     let n = io::read_full(STDIN_FILENO, &mut buf);
     if 65536 < n {
-        say_refused(refusal::bad_numbers(refusal::Bad::TooLong));
+        reports::say_bad(Bad::TooLong);
         return;
     }
     match text::check_text(&buf[..n]) {
-        Verdict::Refused(bad) => say_refused(refusal::bad_numbers(bad)),
+        Verdict::Refused(bad) => reports::say_bad(bad),
         Verdict::Fine => say_tokens(&buf[..n]),
     }
 }

@@ -4,27 +4,19 @@ ghost use mathlib.Core.Path.{_≡_};
 ghost use lib.ListN.{length};
 use libc::STDIN_FILENO;
 use libc::STDOUT_FILENO;
-use refusal::Numbers;
+use refusal::Bad;
 use refusal::Verdict;
 
-// Zeros for the input and one byte more, which tells longer input. Only the length is told, so that no proof unfolds the zeros.
+// Zeros for the input and one byte more, which shows that input is longer. Only the length is promised, so that no proof unfolds the zeros.
 fn room() -> [u8; 262145]
     ensures { λ r. ⌜ 262145 ≡ length r ⌝ }
 {
     [0; 262145]
 }
 
-fn say_refused(n: Numbers) {
-    io::write_all(STDOUT_FILENO, b"refused\t");
-    io::print_decimal(STDOUT_FILENO, n.number as u64);
-    io::write_all(STDOUT_FILENO, b"\t");
-    io::print_decimal(STDOUT_FILENO, n.beside as u64);
-    io::write_all(STDOUT_FILENO, b"\n");
-}
-
 fn say(verdict: Verdict, bytes: usize) {
     match verdict {
-        Verdict::Refused(bad) => say_refused(refusal::bad_numbers(bad)),
+        Verdict::Refused(bad) => reports::say_bad(bad),
         Verdict::Fine => {
             io::write_all(STDOUT_FILENO, b"well-formed\t");
             io::print_decimal(STDOUT_FILENO, bytes as u64);
@@ -37,7 +29,7 @@ fn main() {
     let mut buf = room();
     let n = io::read_full(STDIN_FILENO, &mut buf);
     if 262144 < n {
-        say_refused(refusal::bad_numbers(refusal::Bad::TooLong));
+        reports::say_bad(Bad::TooLong);
         return;
     }
     say(text::check_text(&buf[..n]), n);
