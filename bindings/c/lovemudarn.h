@@ -222,7 +222,7 @@ struct lovemudarn_answer lovemudarn_is_ident(const uint8_t *text, size_t text_le
 /* Where a shebang ends: 1, 2, or 0 with the place beside it, which is at least 2, or with 0 where there is no shebang. */
 struct lovemudarn_answer lovemudarn_strip_shebang(const uint8_t *text, size_t text_len);
 
-/* The raw check of a literal with a prefix of so many bytes: 1, 2, 8, or 0. */
+/* The raw check of a literal with a prefix of `prefix` bytes: 1, 2, 8, or 0. */
 struct lovemudarn_raw_str_answer lovemudarn_validate_raw_str(const uint8_t *text, size_t text_len, size_t prefix);
 
 /* The guarded string at a position: 1, 3, 2, 4, or 0. */

@@ -9,11 +9,11 @@ extern int mprotect(void *, size_t, int);
 static unsigned long checks, failed;
 
 /* one check: two numbers are the same */
-static void same(const char *what, const char *part, unsigned long told, unsigned long right) {
+static void same(const char *what, const char *part, unsigned long is, unsigned long right) {
     checks += 1;
-    if (told != right) {
+    if (is != right) {
         failed += 1;
-        printf("FAILED: %s: %s is %lu, not %lu\n", what, part, told, right);
+        printf("FAILED: %s: %s is %lu, not %lu\n", what, part, is, right);
     }
 }
 
@@ -199,7 +199,7 @@ static void test_token(void) {
     no_token("3 before 2", lovemudarn_token(TEXT("a\377"), NONE, NONE, LIST(meeting), 0, false), LOVEMUDARN_BAD_LIST, LOVEMUDARN_LIST_EMOJI, 1);
 }
 
-/* a run of so many numbers, each of them one that no token has in its place */
+/* a run of n numbers, each of them one that no token has in its place */
 static uint32_t run[48];
 #define UNTOUCHED 0xA5A5A5A5u
 
@@ -207,7 +207,7 @@ static void fill_run(void) {
     for (size_t i = 0; i < 48; i += 1) run[i] = UNTOUCHED;
 }
 
-/* what the run holds: so many numbers, and past them what was there */
+/* what the run holds: n numbers, and past them what was there */
 static void holds(const char *what, const uint32_t *right, size_t count) {
     for (size_t i = 0; i < 48; i += 1) same(what, "a number of the run", run[i], i < count ? right[i] : UNTOUCHED);
 }
@@ -254,7 +254,7 @@ static void test_tokens(void) {
     answer("a mixed text", lovemudarn_tokens(TEXT("/* a */x = 1; // b\n"), NO_LISTS, true, run, 43), LOVEMUDARN_DONE, 10, 0);
     holds("a mixed text", mixed, 40);
 
-    /* frontmatter, and what stands behind it; a suffix that is not at the end */
+    /* frontmatter, and what stands after it; a suffix that is not at the end */
     static const uint32_t fronted[12] = {
         LOVEMUDARN_KIND_FRONTMATTER, 0, 9, 0, LOVEMUDARN_KIND_WHITESPACE, 0, 1, 9, INT_1, 3, 5, 10,
     };
@@ -285,7 +285,7 @@ static void key_holds(const char *what, const char *right, size_t count) {
 #define KEY(s, right)                                                                                                   \
     (fill_out(), answer(s, lovemudarn_key(TEXT(s), NO_LISTS, out, 32), LOVEMUDARN_DONE, sizeof(right) - 1, 0), \
      key_holds(s, right, sizeof(right) - 1))
-/* a refusal, with a buffer of so many bytes */
+/* a refusal, with a buffer of n bytes */
 #define NO_KEY(s, room, number, beside) \
     (fill_out(), answer(s, lovemudarn_key(TEXT(s), NO_LISTS, out, room), number, beside, 0), key_holds(s, "", 0))
 
@@ -328,7 +328,7 @@ static void test_strip_shebang(void) {
     answer("shebang before CR LF", lovemudarn_strip_shebang(TEXT("#!/bin/sh\r\nx")), LOVEMUDARN_DONE, 9, 0);
     answer("a shebang alone", lovemudarn_strip_shebang(TEXT("#!")), LOVEMUDARN_DONE, 2, 0);
     answer("an attribute", lovemudarn_strip_shebang(TEXT("#![allow]\n")), LOVEMUDARN_DONE, 0, 0);
-    answer("an attribute behind trivia", lovemudarn_strip_shebang(TEXT("#! /* a */ // b\n [allow]\n")), LOVEMUDARN_DONE, 0, 0);
+    answer("an attribute after trivia", lovemudarn_strip_shebang(TEXT("#! /* a */ // b\n [allow]\n")), LOVEMUDARN_DONE, 0, 0);
     answer("no shebang", lovemudarn_strip_shebang(TEXT(" #!/bin/sh\n")), LOVEMUDARN_DONE, 0, 0);
     answer("nothing", lovemudarn_strip_shebang(TEXT("")), LOVEMUDARN_DONE, 0, 0);
     answer("ill-formed", lovemudarn_strip_shebang(TEXT("#!\nx\377")), LOVEMUDARN_NOT_UTF8, 4, 0);
@@ -347,7 +347,7 @@ static void raw(const char *what, struct lovemudarn_raw_str_answer a, unsigned l
     same(what, "offset", a.offset, offset);
 }
 
-/* r, so many hashes, two quotes and so many hashes, all of them or all but the second hashes and their quote */
+/* r, n hashes, two quotes and n hashes, all of them or all but the second hashes and their quote */
 static uint8_t hashes[1 + 256 + 2 + 256];
 
 static void test_validate_raw_str(void) {
@@ -424,7 +424,7 @@ static void test_classes(void) {
     answer("is_emoji_char: a bad list", lovemudarn_is_emoji_char(0x1F64F, LIST(meeting)), LOVEMUDARN_BAD_LIST, LOVEMUDARN_LIST_EMOJI, 1);
 }
 
-/* A text that is one byte too long. Its first byte is ill-formed: 1 comes before 2, and no other byte is read, nor could be: there is no memory behind
+/* A text that is one byte too long. Its first byte is ill-formed: 1 comes before 2, and no other byte is read, nor could be: there is no memory after
  * the first page. */
 static void test_too_long(void) {
     size_t len = 4294967296;

@@ -11,7 +11,7 @@ unsafe extern "C" {
 #[inline]
 pub fn memchr(needle: u8, haystack: &[u8]) -> Option<usize> {
     let start = haystack.as_ptr();
-    // SAFETY: C's memchr reads at most so many bytes from the slice's start on.
+    // SAFETY: C's memchr reads at most that many bytes from the slice's start on.
     let found = unsafe { of_c(start.cast(), c_int::from(needle), haystack.len()) };
     (!found.is_null()).then(|| found as usize - start as usize)
 }

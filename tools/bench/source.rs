@@ -235,7 +235,7 @@ pub enum Choice {
     Names,
 }
 
-/// A text of exactly so many bytes.
+/// A text of exactly that many bytes.
 pub fn source(bytes: usize, choice: Choice) -> String {
     if choice == Choice::Names {
         return names(bytes);

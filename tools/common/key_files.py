@@ -64,9 +64,9 @@ BROKEN = [
 ]
 # What may stand before: nothing, trivia, tokens, comments of both kinds, a character outside ASCII.
 BEFORE = ["", " ", "\n\n", "/**/", "// a\n", "a ", "x = 1; ", "/// a\n", "/*! a */", "'a' \"b\" ", "\u00e9 "]
-# Broken tokens behind which the text goes on: a second one, or a good end.
+# Broken tokens after which the text goes on: a second one, or a good end.
 FIRST_OF_TWO = ["'/**/'", "'/ ", "r##~", "r#~ ", "br#~", "b'//"]
-# Ill-formed behind a broken token, and before one.
+# Ill-formed after a broken token, and before one.
 ILL_AND_BROKEN = [b'"\xff', b"/* \xc3", b"'/\x80", b"r#~\xff", b'\xff"', b"\xc3 /*", b"a \xed\xa0\x80'"]
 
 

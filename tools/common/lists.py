@@ -127,7 +127,7 @@ def refused_lists():
         lists.append((flat([base[2], pair, (0x200, 0x2FF)]), 1))
         lists.append((flat(base + [pair]), 3))
         lists.append((flat(base + [pair, (0x200, 0x2FF), (0x300, 0x300)]), 3))
-    # Half pairs: alone, behind good pairs, whatever the lone number is.
+    # Half pairs: alone, after good pairs, whatever the lone number is.
     for lone in (0x100, 0x41, 0x85, 0xD800, 0, 0xFFFFFFFF):
         lists.append(([lone], 0))
         lists.append(([0xAA, 0xAA, lone], 1))

@@ -43,7 +43,7 @@ SIZES = {ONE: (8, 28), SHEBANG: (0, 12), RAW: (4, 24), GUARDED: (4, 24), SLOTS: 
 
 
 def of_the_format(operation, given, answer):
-    """Whether an operation takes the bytes that are given, and answers with so many."""
+    """Whether an operation takes the bytes that are given, and answers with that many."""
     handed_in = len(given)
     if operation == KEY:
         if handed_in < 8:

@@ -177,7 +177,7 @@ def rows(oracle):
         if answer != expected:
             sys.exit(f"{asked}: {answer}, not {expected}")
         requests.append(asked)
-    # Each row's text behind other tokens, too.
+    # Each row's text after other tokens, too.
     return requests + [tokens("off", f"a {text}") for _, text, _ in ROWS]
 
 
@@ -389,7 +389,7 @@ def frontmatter_starts():
 
 
 def frontmatter_ends():
-    """000's order of searches: each kind of end, alone and before and behind others."""
+    """000's order of searches: each kind of end, alone and before and after others."""
     ends = ["\n----", "\n---", "\nuse ", "\n//!", "\n#![", "\n ---", "\na---", " ---"]
     texts = []
     for count in range(4):
@@ -400,7 +400,7 @@ def frontmatter_ends():
     for end in ends + near:
         texts += [f"---a\nb{end}c\nd", f"----\nb{end}\r\nd", f"---\r\nb\r{end}x\r\ny"]
         texts += [f"-----\n\u00e9{end}\u00e9\n\u00e9"]
-    # The last search: dashes found twice, cut by three, behind a newline or not.
+    # The last search: dashes found twice, cut by three, after a newline or not.
     texts += ["----\nb---  ---\nz", "----\nb--- ---", "----\nb--- a---", "----\nb----", "----\nb-----"]
     texts += ["----\nb------", "----\nb--- \n ---", "----\nb---\t---c\nd", "----\nb---a ---", "----\n ---"]
     texts += ["----\n  ---  \n---", "---- a ---\nb", "---- a b---\nc", "----  ---- x"]
@@ -411,7 +411,7 @@ def frontmatter_ends():
 def edge_frontmatter():
     starts, ends = frontmatter_starts(), frontmatter_ends()
     requests = [tokens("on", text) for text in starts + ends]
-    # Off, a fence is so many minus signs: a part is enough.
+    # Off, a fence is as many minus signs: a part is enough.
     requests += off(starts[::3] + ends[::6])
     return requests + [tokens("on", "---" + text) for text in over("-\n a", 4)]
 
@@ -508,7 +508,7 @@ EDGE_CHARACTERS = "'\"\\/\n*!#rbck01_-.e a\r\0\u00e9\u0300\u200d\x85\U0001f600"
 
 
 def glued(numbers):
-    """Fragments one behind the other; now and then a space between two."""
+    """Fragments one after the other; now and then a space between two."""
     text = ""
     for _ in range(1 + numbers.below(12)):
         text += numbers.pick(FRAGMENTS)

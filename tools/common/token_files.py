@@ -37,7 +37,7 @@ A_LONG_ANSWER = 24000
 
 
 def spread(items, most):
-    """At most so many of the items, evenly over all of them."""
+    """At most that many of the items, evenly over all of them."""
     if len(items) <= most:
         return items
     return [items[at * len(items) // most] for at in range(most)]
@@ -73,7 +73,7 @@ class Files:
                     calls.one(given, 0, text)
                     calls.tokens(given, text)
                 calls.tokens(flag, text, TOKENS_ONCE)
-                # The same text behind other tokens.
+                # The same text after other tokens.
                 for given in (0, 1):
                     calls.one(given, 2, b"a " + text)
                 calls.tokens(0, b"a " + text)

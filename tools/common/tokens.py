@@ -192,7 +192,7 @@ class Calls:
         return None, records
 
     def list(self, flag, text):
-        """With so many records lent: the answer, and what each of them holds then."""
+        """With that many records lent: the answer, and what each of them holds then."""
         refused, records = self.records(flag, text)
         if refused is None and len(records) > RECORDS:
             refused = numbers_of(5, len(records), 0)
@@ -225,7 +225,7 @@ class Calls:
         return self.keys[text]
 
     def key(self, room, fill, text):
-        """With so many bytes lent, each of which is `fill`: the answer, and what they hold then."""
+        """With that many bytes lent, each of which is `fill`: the answer, and what they hold then."""
         refused, key = self.keyed(text)
         buffer = bytes([fill]) * room
         if refused is None and len(key) > room:

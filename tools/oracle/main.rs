@@ -10,9 +10,9 @@
 //! | `utf8 TEXT`               | `good`, or `bad PLACE`: the first ill-formed sequence      |
 //! | `utf8-after TEXT`         | 256 numbers, for TEXT and then byte 0, 1, ..: 0 or 1 + PLACE |
 //! | `class NAME NUMBER`       | `yes`, `no`, or `none` where NUMBER is no scalar value     |
-//! | `runs NAME`               | `LOW-HIGH=yes` or `LOW-HIGH=no`, parted by spaces          |
+//! | `runs NAME`               | `LOW-HIGH=yes` or `LOW-HIGH=no`, separated by spaces          |
 //! | `ident TEXT`              | `yes` or `no`                                              |
-//! | `tokens ALLOWED TEXT`     | all tokens but Eof, parted by spaces; `-` where there is none |
+//! | `tokens ALLOWED TEXT`     | all tokens but Eof, separated by spaces; `-` where there is none |
 //! | `steps ALLOWED TEXT`      | all tokens, Eof too, each with the flag after it           |
 //! | `one ALLOWED PLACE TEXT`  | the token of a lexer that starts at PLACE, with the flag after it |
 //! | `shebang TEXT`            | `none`, or the length of the shebang                       |
@@ -27,7 +27,7 @@
 //! `tokens` on, a panic of 000 is answered `panic`.
 //!
 //! ALLOWED says whether frontmatter is: `on` or `off`. A token is its kind, what the kind
-//! holds in the order of 000's fields, and its length, parted by commas. What is missing
+//! holds in the order of 000's fields, and its length, separated by commas. What is missing
 //! is `none`; a doc style is `outer` or `inner`: `Plus,1`, `Lifetime,false,2`,
 //! `BlockComment,outer,true,6`, `Literal,RawStr,none,4,4`, `Literal,Int,Decimal,false,3,5`.
 //! The flag after a token, `on` or `off`, follows its length: `Plus,1,off`, `Eof,0,on`.

@@ -50,16 +50,16 @@ pub enum TokenKind {
     Ident,
     /// What would be an identifier if it held no emoji.
     InvalidIdent,
-    /// An identifier behind `r#`.
+    /// An identifier after `r#`.
     RawIdent,
-    /// A keyword behind `k#`.
+    /// A keyword after `k#`.
     ForcedKeywordIdent,
     /// An identifier right before `#`, `"` or `'` that is no known prefix of a literal; what
     /// follows is a token of its own.
     UnknownPrefix,
     /// A lifetime right before `#`; the `#` is a token of its own.
     UnknownPrefixLifetime,
-    /// A lifetime behind `'r#`.
+    /// A lifetime after `'r#`.
     RawLifetime,
     /// `#"` or `##`.
     GuardedStrPrefix,
@@ -216,7 +216,7 @@ pub enum Base {
     Hexadecimal = 16,
 }
 
-/// A string behind hashes, as [`guarded_double_quoted_string`](crate::guarded_double_quoted_string)
+/// A string after hashes, as [`guarded_double_quoted_string`](crate::guarded_double_quoted_string)
 /// finds it.
 #[derive(Clone, Copy, Debug, PartialEq, Eq, Hash)]
 pub struct GuardedStr {
@@ -236,11 +236,11 @@ pub enum RawStrError {
         /// What follows; NUL where the text ends.
         bad_char: char,
     },
-    /// No quote has enough hashes behind it.
+    /// No quote has enough hashes after it.
     NoTerminator {
         /// The hashes that the string opens with.
         expected: u32,
-        /// The most hashes behind a quote.
+        /// The most hashes after a quote.
         found: u32,
         /// Where the first such quote's hashes start: bytes from the beginning of the text.
         possible_terminator_offset: Option<u32>,

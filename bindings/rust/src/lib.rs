@@ -175,7 +175,7 @@ pub fn advance_token(
 /// nothing; each longest run of these becomes one newline. Frontmatter is off.
 ///
 /// Two texts have the same key exactly if their other tokens are the same, in the same order and
-/// parted at the same places. Refused are 1, 3, 2, and 6 where a literal or a block comment is broken.
+/// separated at the same places. Refused are 1, 3, 2, and 6 where a literal or a block comment is broken.
 pub fn key(text: impl AsRef<[u8]>, lists: &Lists) -> Result<Vec<u8>, Refusal> {
     let text = text.as_ref();
     // A key is never longer than its text.
@@ -238,7 +238,7 @@ pub fn strip_shebang(text: impl AsRef<[u8]>) -> Result<Option<usize>, Refusal> {
     done(answer).map(|end| (end != 0).then_some(end))
 }
 
-/// What is wrong with a raw string behind a prefix of so many bytes, or `Ok(Ok(()))`.
+/// What is wrong with a raw string after a prefix of that many bytes, or `Ok(Ok(()))`.
 ///
 /// Refused are 1, 2, and 8 where the text does not begin with such a prefix.
 pub fn validate_raw_str(

@@ -19,6 +19,7 @@ use Rattle.token.specs.declared.TokenKind.{TokenKind}
 use Rattle.token.specs.declared.TokenKind.the-variants as kind
 use Rattle.token.specs.declared.LiteralKind.the-variants.{CStr, RawCStr, Str}
 use Rattle.token.specs.Lists.{Lists, lent, smiling}
+use Rattle.token.specs.Names.{is, '#', 'double'}
 use Rattle.token.specs.Literals.{literal}
 use Rattle.token.specs.Whitespace.{whitespace}
 use Rattle.token.specs.Comments.{slash}
@@ -27,7 +28,7 @@ use Rattle.token.specs.Quotes.{doubleQuoted}
 use Rattle.token.specs.Numbers.{number}
 use Rattle.token.specs.Lifetimes.{lifetimeOrChar}
 use Rattle.token.specs.Prefixed.{afterR, afterK, afterB, afterC}
-use Rattle.token.specs.Punctuation.{guardMark}
+use Rattle.token.specs.Punctuation.{hashOrQuote, pound}
 use Rattle.token.specs.Advance.{plain}
 use Rattle.cursor.specs.declared.Cursor.{Cursor}
 use Rattle.cursor.specs.declared.Kinded.the-variants.{Plain}
@@ -35,14 +36,13 @@ use Rattle.cursor.specs.declared.Lexed.{Lexed}
 use Rattle.cursor.specs.declared.Scanned.{Scanned}
 use Rattle.cursor.specs.Cursors.{rest}
 use Rattle.cursor.specs.Moved.{Moved}
-use Rattle.cursor.specs.Ran.{Ran}
+use Rattle.cursor.specs.Ran.{Ran, Begun}
 use Rattle.cursor.proofs.Runs.{ran-give, ran-as, ran-this, ran-that, ran-take, ran-no}
 use Rattle.literals.specs.declared.Form.the-variants as form
 use Rattle.literals.specs.Forms.{doubleKind, rawKind, LiteralRan}
-use Rattle.prefixed.specs.Begins.{Begun}
-use Rattle.advance.specs.Arms.{pound, guards}
+use Rattle.advance.specs.Arms.{guards}
 
--- a token that is no literal, as the code hands it on
+-- a token that is not a literal, as the code hands it on
 abbrev pub handed : TokenKind → Cursor → Scanned
 handed k d = record { kind = Plain k; next = d }
 
@@ -50,18 +50,12 @@ begun : (m : Eater TokenKind) {s : List ℕ} {a d : Cursor} {k : TokenKind} → 
 begun m r = record { past = tt; ran = r }
 
 -- AFTER A HASH
-pub mark-yes : (c : ℕ) → c ≡ 0x22 → true ≡ guardMark c
-mark-yes c e = rw e
-
-pub mark-no : (c : ℕ) → (c ≡ 0x22 → ⊥) → eqb c 0x23 ≡ guardMark c
-mark-no c n = rw (ne-eqb c 0x22 n)
-
-module _ {s : List ℕ} {a : Cursor} {c : ℕ} {t : Bool} (e : c ≡ getD (rest s a) 0 0) (g : t ≡ guardMark c) where
+module _ {s : List ℕ} {a : Cursor} {c : ℕ} {t : Bool} (e : c ≡ getD (rest s a) 0 0) (g : t ≡ hashOrQuote c) where
   pub hash-mark : {b : Cursor} → t ≡ true → Moved s a b (drop 1 (rest s a)) → Begun pound s a (record { kind = Plain kind.GuardedStrPrefix; next = b })
-  hash-mark {b} h m = begun pound (ran-take (give kind.GuardedStrPrefix) (give kind.Pound) guardMark e (sym g ∙ h) m (ran-give kind.GuardedStrPrefix s b))
+  hash-mark {b} h m = begun pound (ran-take (give kind.GuardedStrPrefix) (give kind.Pound) hashOrQuote e (sym g ∙ h) m (ran-give kind.GuardedStrPrefix s b))
 
   pub hash-alone : {r : Scanned} → t ≡ false → r ≡ record { kind = Plain kind.Pound; next = a } → Begun pound s a r
-  hash-alone h q = subst (Begun pound s a) (sym q) (begun pound (ran-no _ (give kind.Pound) guardMark e (sym g ∙ h) (ran-give kind.Pound s a)))
+  hash-alone h q = subst (Begun pound s a) (sym q) (begun pound (ran-no _ (give kind.Pound) hashOrQuote e (sym g ∙ h) (ran-give kind.Pound s a)))
 
 -- THE GUARDS
 module _ (i l n : List ℕ) {s : List ℕ} {a : Cursor} (c : ℕ) {r : Scanned} {t : Bool} (g : t ≡ isWhitespace c) where
@@ -83,7 +77,7 @@ module _ (i l n : List ℕ) {s : List ℕ} {a : Cursor} (c : ℕ) {r : Scanned} 
           subst (Begun (guards (lent i l n) c) s a) (sym q)
           (begun _ (ran-that whitespace _ (sym g ∙ h) (ran-that (identOrUnknownPrefix (lent i l n)) _ (sym k ∙ v) (ran-that (invalidIdent (lent i l n)) (give kind.Unknown) (sym y ∙ z) (ran-give kind.Unknown s a)))))
 
--- DIGITS are no whitespace and start no identifier
+-- DIGITS are not whitespace and start no identifier
 digit-white : {c : ℕ} → 0x30 ≤ c → c ≤ 0x39 → isWhitespace c ≡ false
 digit-white {c} p q = sym (no-white c (λ e. omega arith) (λ e. omega arith) (λ e. omega arith) (λ e. omega arith) (λ e. omega arith) (λ e. omega arith) (λ e. omega arith) (λ e. omega arith) (λ e. omega arith) (λ e. omega arith) (λ e. omega arith))
 
@@ -110,9 +104,9 @@ module _ (i l n : List ℕ) {s : List ℕ} {a : Cursor} {c : ℕ} {r : Scanned} 
   unfolding choose isWhitespace
   r-in e b = arm (lent i l n) (afterR (lent i l n)) 0x72 (λ cs. refl) e b
 
-  pub k-in : {x : Lexed} → c ≡ 0x6B → Ran (afterK (lent i l n)) s a (x .next) (x .kind) → r ≡ handed (x .kind) (x .next) → Begun (plain (lent i l n) c) s a r
+  pub k-in : c ≡ 0x6B → Begun (afterK (lent i l n)) s a r → Begun (plain (lent i l n) c) s a r
   unfolding choose isWhitespace
-  k-in e p q = subst (Begun (plain (lent i l n) c) s a) (sym q) (arm (lent i l n) (afterK (lent i l n)) 0x6B (λ cs. refl) e (begun _ p))
+  k-in e b = arm (lent i l n) (afterK (lent i l n)) 0x6B (λ cs. refl) e b
 
   pub b-in : c ≡ 0x62 → Begun (afterB (lent i l n)) s a r → Begun (plain (lent i l n) c) s a r
   unfolding choose isWhitespace
@@ -165,7 +159,7 @@ away {c} d k h = apart-from (Unit {0}) points c k h d
 above : {c : ℕ} → Apart c → (k : ℕ) → isIn points k ≡ true → k ≤ c → k + 1 ≤ c
 above d k h l = omega (arith, away d k h)
 
--- a digit: the points below the digits are told with them
+-- a digit: the points below the digits are tested with them
 least : {c : ℕ} → Apart c → 0x21 ≤ c → 0x30 ≤ c
 least d p = above d 0x2F refl (above d 0x2E refl (above d 0x2D refl (above d 0x2C refl (above d 0x2B refl (above d 0x2A refl (above d 0x29 refl (above d 0x28 refl (above d 0x27 refl (above d 0x26 refl (above d 0x25 refl (above d 0x24 refl (above d 0x23 refl (above d 0x22 refl (above d 0x21 refl p))))))))))))))
 

@@ -17,7 +17,7 @@ use Rattle.token.specs.declared.TokenKind.the-variants as kind
 use Rattle.token.specs.Names.{is, 'newline', '-'}
 use Rattle.token.specs.Lists.{lent}
 use Rattle.token.specs.Frontmatter.{dashes, frontmatter}
-use Rattle.token.specs.Advance.{plain, last, leading, fronted}
+use Rattle.token.specs.Advance.{plain, last, leading, fronted, decided}
 use Rattle.cursor.specs.declared.Cursor.{Cursor}
 use Rattle.cursor.specs.declared.Step.{Step}
 use Rattle.cursor.specs.declared.Step.the-variants.{Got, Over}
@@ -25,13 +25,12 @@ use Rattle.cursor.specs.declared.Lexed.{Lexed}
 use Rattle.cursor.specs.declared.Scanned.{Scanned}
 use Rattle.cursor.specs.Cursors.{rest, Seen}
 use Rattle.cursor.specs.Moved.{Moved}
-use Rattle.cursor.specs.Ran.{Ran}
+use Rattle.cursor.specs.Ran.{Ran, Begun}
 use Rattle.cursor.proofs.Moves.{char-at, end-at}
 use Rattle.cursor.proofs.Loops.{Eaten, eaten-none, eaten-on, eaten-off, eaten-over, ran-while}
 use Rattle.cursor.proofs.Runs.{ran-give, ran-bind, ran-then, ran-eat, ran-this, ran-that, ran-both, ran-not-both}
-use Rattle.prefixed.specs.Begins.{Begun}
 use Rattle.advance.specs.declared.Blanks.{Blanks}
-use Rattle.advance.specs.Arms.{Led, fence, decided}
+use Rattle.advance.specs.Arms.{Led, fence}
 use Rattle.advance.proofs.Arms.{handed}
 
 -- THE WHITESPACE BEFORE IT, and its last character

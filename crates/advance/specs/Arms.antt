@@ -6,16 +6,14 @@ use mathlib.Core.List.{List}
 use lib.ListN.{getD}
 use Rattle.basics.specs.Choice.{and}
 use Rattle.eaters.specs.Eat.{Eater, give, takeWhile, while, choose}
-use Rattle.eaters.specs.Look.{ifEat}
 use Rattle.classes.specs.Whitespace.{isWhitespace}
 use Rattle.token.specs.declared.TokenKind.{TokenKind}
 use Rattle.token.specs.declared.TokenKind.the-variants as kind
 use Rattle.token.specs.Lists.{Lists, starting, smiling}
 use Rattle.token.specs.Whitespace.{whitespace}
 use Rattle.token.specs.Words.{identOrUnknownPrefix, invalidIdent}
-use Rattle.token.specs.Punctuation.{guardMark}
 use Rattle.token.specs.Names.{is, '-'}
-use Rattle.token.specs.Advance.{plain, last, fronted}
+use Rattle.token.specs.Advance.{last}
 use Rattle.cursor.specs.declared.Cursor.{Cursor}
 use Rattle.cursor.specs.Cursors.{rest}
 use Rattle.cursor.specs.Moved.{Moved}
@@ -31,14 +29,6 @@ pub record Led (c : ℕ) (s : List ℕ) (from : Cursor) (r : Blanks) : Type 0 wh
 abbrev pub fence : (c : ℕ) → List ℕ → Bool
 fence c cs = and (is '-' c) (and (is '-' (getD cs 0 0)) (is '-' (getD cs 1 0)))
 
--- after the first character c
-abbrev pub decided : Lists → (on : Bool) (c : ℕ) → Eater TokenKind
-decided L on c = choose on (fronted L c) (plain L c)
-
--- after a hash
-abbrev pub pound : Eater TokenKind
-pound = ifEat guardMark (give kind.GuardedStrPrefix) (give kind.Pound)
-
--- after a character that is no single point of the decision: the guards, in their order
+-- after a character that is not a single point of the decision: the guards, in their order
 abbrev pub guards : Lists → (c : ℕ) → Eater TokenKind
 guards L c = choose (isWhitespace c) whitespace (choose (starting L c) (identOrUnknownPrefix L) (choose (smiling L c) (invalidIdent L) (give kind.Unknown)))

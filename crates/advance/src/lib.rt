@@ -5,14 +5,13 @@ ghost use mathlib.Core.List.{[]};
 ghost use Rattle.basics.specs.Choice.{and};
 ghost use Rattle.ranges.specs.Rules.{Good};
 ghost use Rattle.token.specs.Lists.{lent};
-ghost use Rattle.token.specs.Punctuation.{guardMark};
+ghost use Rattle.token.specs.Punctuation.{pound};
 ghost use Rattle.token.specs.Advance;
-ghost use Rattle.token.specs.Advance.{stays};
+ghost use Rattle.token.specs.Advance.{decided, stays};
 ghost use Rattle.cursor.specs.declared.Kinded.the-variants as kinded;
 ghost use Rattle.cursor.specs.Cursors.{rest};
-ghost use Rattle.cursor.specs.Ran.{Ran};
-ghost use Rattle.prefixed.specs.Begins.{Begun};
-ghost use Rattle.advance.specs.Arms.{pound, guards, Led, fence, decided};
+ghost use Rattle.cursor.specs.Ran.{Ran, Begun};
+ghost use Rattle.advance.specs.Arms.{guards, Led, fence};
 use cursor::Cursor;
 use cursor::Kinded;
 use cursor::Lexed;
@@ -22,7 +21,7 @@ use literals::Form;
 use text::CodePoint;
 use token::TokenKind;
 
-// A token that is no literal.
+// A token that is not a literal.
 fn whole(lexed: Lexed) -> Scanned
     ensures { λ r. ⌜ r ≡ record { kind = kinded.Plain (lexed .kind); next = lexed .next } ⌝ }
 {
@@ -44,22 +43,12 @@ fn only(kind: TokenKind, from: Cursor) -> Scanned
     }
 }
 
-// Whether c after a hash makes the prefix of a guarded string.
-fn is_guard_mark(c: CodePoint) -> bool
-    ensures { λ r. ⌜ r ≡ guardMark c ⌝ }
-{
-    if c == 0x22 {
-        return true;
-    }
-    c == 0x23
-}
-
-// What a hash begins, after it.
+// What a hash begins, after it: a hash or a quote makes it the prefix of a guarded string.
 fn after_hash(text: &[u8], from: Cursor) -> Scanned
     ensures { λ r. ⌜ Begun pound (now (text .entry)) from r ⌝ }
 {
     let c = from.first(text);
-    if is_guard_mark(c) {
+    if prefixed::is_hash_or_quote(c) {
         return Scanned {
             kind: Kinded::Plain(TokenKind::GuardedStrPrefix),
             next: from.bump(text),
@@ -107,7 +96,7 @@ fn plain(
     match c {
         0x2F => whole(comment::slash(text, from)),
         0x72 => prefixed::after_r(text, from, starts, continues, emoji),
-        0x6B => whole(words::after_k(text, from, starts, continues, emoji)),
+        0x6B => prefixed::after_k(text, from, starts, continues, emoji),
         0x62 => prefixed::after_b(text, from, starts, continues, emoji),
         0x63 => prefixed::after_c(text, from, Form::C, starts, continues, emoji),
         0x30..=0x39 => literals::number_literal(text, from, c, starts, continues),
@@ -144,9 +133,9 @@ fn plain(
 }
 
 // Past the whitespace after a first character, and the last character of it.
-pub struct Blanks {
-    pub next: Cursor,
-    pub last: CodePoint,
+struct Blanks {
+    next: Cursor,
+    last: CodePoint,
 }
 
 fn eat_leading(text: &[u8], c: CodePoint, from: Cursor) -> Blanks

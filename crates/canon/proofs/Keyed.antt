@@ -16,7 +16,7 @@ use Rattle.token.specs.Lists.{Lists}
 use Rattle.token.specs.Advance.{Told, advance}
 use Rattle.token.specs.Tokens.{Piece, tokens}
 use Rattle.token.specs.Trivia.{isTrivia}
-use Rattle.canon.specs.Broken.{isBroken}
+use Rattle.token.specs.Broken.{isBroken}
 use Rattle.canon.specs.Meaning.{Item, gap, meant, gapBefore}
 use Rattle.canon.specs.Key.{written}
 use Rattle.canon.specs.Fair.{Fair}

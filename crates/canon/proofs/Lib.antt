@@ -9,6 +9,7 @@ mod Spelling
 mod Keyed
 mod Written
 pub mod Canon
+pub mod Agreeing
 pub mod Mark
 pub mod Needed
 pub mod Keys

@@ -11,7 +11,7 @@ use Rattle.basics.proofs.Choices.{and-1, and-2}
 use Rattle.classes.specs.Identifiers.{digit}
 use Rattle.classes.specs.Whitespace.{isWhitespace}
 use Rattle.eaters.specs.Eat.{Eater, give, eat, _>>=_, _>>_, choose}
-use Rattle.eaters.specs.Scan.{Turn, on, off}
+use Rattle.eaters.specs.Scan.{Turn, taking, breakOff, close, go, skip}
 use Rattle.token.specs.declared.Base.{Base}
 use Rattle.token.specs.declared.HashCount.{HashCount}
 use Rattle.token.specs.declared.HashCount.the-variants.{NoCount}
@@ -28,10 +28,10 @@ use Rattle.token.specs.Quotes.{doubleTurn, doubleQuoted, singleTurn, singleQuot
 use Rattle.token.specs.RawStrings.{counted, uncounted, rawString}
 use Rattle.token.specs.Numbers.{any, decimals, hexadecimals, hexDigit, exponent, maybeExponent, fraction, based, decimal, number}
 use Rattle.token.specs.Lifetimes.{character, lifetimeRest, lifetime, naming, lifetimeOrChar}
-use Rattle.token.specs.Prefixed.{hashOrQuote, afterR, afterK, afterC, afterB}
-use Rattle.token.specs.Punctuation.{symbols, isSymbol, guardMark}
+use Rattle.token.specs.Prefixed.{hashed, afterR, afterK, afterC, afterB}
+use Rattle.token.specs.Punctuation.{symbols, isSymbol, hashOrQuote}
 use Rattle.token.specs.Advance.{plain}
-use Rattle.canon.specs.Broken.{brokenLiteral, isBroken}
+use Rattle.token.specs.Broken.{brokenLiteral, isBroken}
 use Rattle.canon.specs.Fair.{Fair}
 use Rattle.canon.specs.Local.{stills, Sound}
 use Rattle.canon.proofs.Sounds.{false-true, none-at, always, Quiet, quiet, quiet-or, sound-wider, sound-more, sound-give, sound-choose, sound-ifAt, sound-ifTwo, sound-ifSecond, sound-texted, sound-eat, sound-any, sound-run, sound-while, sound-bind, sound-then, sound-say, sound-ifTaking, sound-ifEat}
@@ -40,45 +40,45 @@ use Rattle.canon.proofs.Stills.{start-none, end-starts, line-starts, li
 
 -- a turn that ends the search
 ended : Turn → Bool
-ended (on zero zero) = true
-ended (on zero (suc d)) = false
-ended (on (suc k) d) = false
-ended off = false
+ended (taking zero zero) = true
+ended (taking zero (suc d)) = false
+ended (taking (suc k) d) = false
+ended breakOff = false
 
-not-ended : {X : Type 0} (z : Turn) → ended z ≡ false → z ≡ on 0 0 → X
+not-ended : {X : Type 0} (z : Turn) → ended z ≡ false → z ≡ close → X
 unfolding ended
 not-ended z f e = false-true (sym f ∙ ap ended e)
 
 block-ends : Ends blockTurn
 unfolding ended
-block-ends d c e f h = go (and (is '/' c) (is '*' e)) (and (is '*' c) (is '/' e)) h
+block-ends d c e f h = by (and (is '/' c) (is '*' e)) (and (is '*' c) (is '/' e)) h
   where
-    go : {X : Type 0} (s t : Bool) → pick s (on 1 (suc (suc d))) (pick t (on 1 d) (on 0 (suc d))) ≡ on 0 0 → X
-    go true t h = not-ended (on 1 (suc (suc d))) refl h
-    go false true h = not-ended (on 1 d) refl h
-    go false false h = not-ended (on 0 (suc d)) refl h
+    by : {X : Type 0} (s t : Bool) → pick s (skip (suc (suc d))) (pick t (skip d) (go (suc d))) ≡ close → X
+    by true t h = not-ended (skip (suc (suc d))) refl h
+    by false true h = not-ended (skip d) refl h
+    by false false h = not-ended (go (suc d)) refl h
 
 double-ends : Ends doubleTurn
 unfolding ended
 double-ends d c e f h =
-    go (pick (and (is '\' c) (or (is '\' f) (is 'double' f))) (on 1 (suc d)) (on 0 (suc d))) (is 'double' c) (and (is '\' c) (or (is '\' e) (is 'double' e))) h
+    by (pick (and (is '\' c) (or (is '\' f) (is 'double' f))) (skip (suc d)) (go (suc d))) (is 'double' c) (and (is '\' c) (or (is '\' e) (is 'double' e))) h
   where
-    go : (x : Turn) (s t : Bool) → pick s (on 0 0) (pick t (on 1 (suc d)) (on 0 (suc d))) ≡ on 0 0 → pick s (on 0 0) x ≡ on 0 0
-    go x true t h = refl
-    go x false true h = not-ended (on 1 (suc d)) refl h
-    go x false false h = not-ended (on 0 (suc d)) refl h
+    by : (x : Turn) (s t : Bool) → pick s close (pick t (skip (suc d)) (go (suc d))) ≡ close → pick s close x ≡ close
+    by x true t h = refl
+    by x false true h = not-ended (skip (suc d)) refl h
+    by x false false h = not-ended (go (suc d)) refl h
 
 single-ends : Ends singleTurn
 unfolding ended
 single-ends d c e f h =
-    go (pick (is '/' c) off (pick (and (is 'newline' c) (not (is 'single' f))) off (pick (is '\' c) (on 1 (suc d)) (on 0 (suc d))))) (is 'single' c) (is '/' c) (and (is 'newline' c) (not (is 'single' e))) (is '\' c) h
+    by (pick (is '/' c) breakOff (pick (and (is 'newline' c) (not (is 'single' f))) breakOff (pick (is '\' c) (skip (suc d)) (go (suc d))))) (is 'single' c) (is '/' c) (and (is 'newline' c) (not (is 'single' e))) (is '\' c) h
   where
-    go : (x : Turn) (s t r q : Bool) → pick s (on 0 0) (pick t off (pick r off (pick q (on 1 (suc d)) (on 0 (suc d))))) ≡ on 0 0 → pick s (on 0 0) x ≡ on 0 0
-    go x true t r q h = refl
-    go x false true r q h = not-ended off refl h
-    go x false false true q h = not-ended off refl h
-    go x false false false true h = not-ended (on 1 (suc d)) refl h
-    go x false false false false h = not-ended (on 0 (suc d)) refl h
+    by : (x : Turn) (s t r q : Bool) → pick s close (pick t breakOff (pick r breakOff (pick q (skip (suc d)) (go (suc d))))) ≡ close → pick s close x ≡ close
+    by x true t r q h = refl
+    by x false true r q h = not-ended breakOff refl h
+    by x false false true q h = not-ended breakOff refl h
+    by x false false false true h = not-ended (skip (suc d)) refl h
+    by x false false false false h = not-ended (go (suc d)) refl h
 
 -- kinds of literals by whether they end, and by their count of hashes
 abbrev Marks : (Bool → LiteralKind) → Type 0
@@ -173,9 +173,9 @@ module _ (asked : Bool) where
     invalid-sound : {n : ℕ} → Sound n (whole isBroken) (invalidIdent L)
     invalid-sound = sound-then (sound-while (inInvalid L) (line-invalid L)) (λ t. sound-give _)
 
-    -- a mark, and an identifier that starts after it
-    marked-sound : (k : TokenKind) → Sound 2 (whole isBroken) (eat 1 >> identifier L >> give k)
-    marked-sound k = sound-then (sound-then (sound-wider (omega arith) (sound-eat 1)) (λ x. identifier-sound)) (λ t. sound-give k)
+    -- a hash, and an identifier that starts after it
+    hashed-sound : (k : TokenKind) → Sound 2 (whole isBroken) (hashed L k)
+    hashed-sound k = sound-then (sound-then (sound-wider (omega arith) (sound-eat 1)) (λ x. identifier-sound)) (λ t. sound-give k)
 
     rest-sound : {n : ℕ} (numbered : Bool) (before : ℕ) → Sound n (whole isBroken) (lifetimeRest L numbered before)
     rest-sound numbered before =
@@ -239,11 +239,11 @@ module _ (asked : Bool) where
       -- r, k, b, c
       r-sound : Sound 0 (whole isBroken) (afterR L)
       r-sound =
-          sound-ifTwo (is '#') (starting L) (quiet _ refl) (starts-quiet isBroken) (marked-sound _)
+          sound-ifTwo (is '#') (starting L) (quiet _ refl) (starts-quiet isBroken) (hashed-sound _)
           (sound-ifAt hashOrQuote (quiet _ refl) (sound-more (literal-sound 1 (raw-sound RawStr refl))) word-sound)
 
       k-sound : Sound 0 (whole isBroken) (afterK L)
-      k-sound = sound-ifTwo (is '#') (starting L) (quiet _ refl) (starts-quiet isBroken) (marked-sound _) word-sound
+      k-sound = sound-ifTwo (is '#') (starting L) (quiet _ refl) (starts-quiet isBroken) (hashed-sound _) word-sound
 
       c-sound : (mk : Bool → LiteralKind) (raw : HashCount → LiteralKind) → Marks mk → Counts raw → Sound 0 (whole isBroken) (afterC L mk raw)
       c-sound mk raw m r =
@@ -266,7 +266,7 @@ module _ (asked : Bool) where
           (sound-choose (is 'c' c) (c-sound CStr RawCStr (λ b. refl) refl)
           (sound-choose (starting L c) word-sound
           (sound-choose (digit c) (literal-sound 1 (number-sound c))
-          (sound-choose (is '#' c) (sound-ifEat guardMark refl refl (sound-give _) (sound-give _))
+          (sound-choose (is '#' c) (sound-ifEat hashOrQuote refl refl (sound-give _) (sound-give _))
           (sound-choose (isSymbol symbols c) (sound-give _)
           (sound-choose (is 'single' c) quote-sound
           (sound-choose (is 'double' c) (literal-sound 1 (double-sound Str (λ b. refl)))

@@ -8,7 +8,7 @@ use lib.Dec.{eqb}
 use native.Mathlib.Omega.{arith}
 use Rattle.basics.specs.Choice.{pick, and}
 use Rattle.eaters.specs.Eat.{Got}
-use Rattle.eaters.specs.Scan.{after, Turn, on, off, turned, scan, run, firstWith}
+use Rattle.eaters.specs.Scan.{after, Turn, taking, breakOff, close, turned, scan, run, firstWith}
 use Rattle.eaters.proofs.Fits.{fits-scan, fits-firstWith}
 use Rattle.canon.specs.Local.{Near, all, both, Sound}
 use Rattle.canon.proofs.Sounds.{false-true, first-near}
@@ -19,11 +19,11 @@ found s = s
 
 -- that a search ends at a character does not hang on the next one
 abbrev pub Ends : (ℕ → ℕ → ℕ → Turn) → Type 0
-Ends t = (d c e f : ℕ) → t (suc d) c e ≡ on 0 0 → t (suc d) c f ≡ on 0 0
+Ends t = (d c e f : ℕ) → t (suc d) c e ≡ close → t (suc d) c f ≡ close
 
 turned-none : {X : Type 0} (z : Turn) (f : ℕ → ℕ → Got Bool) → turned z f .took ≤ 0 → turned z f .said ≡ true → X
-turned-none (on k d) f h e = absurd (omega arith)
-turned-none off f h e = false-true e
+turned-none (taking k d) f h e = absurd (omega arith)
+turned-none breakOff f h e = false-true e
 
 -- it finds its end and takes nothing only where it is at its end
 scan-none : (t : ℕ → ℕ → ℕ → Turn) (k d : ℕ) (cs : List ℕ) → scan t k d cs .took ≤ 0 → scan t k d cs .said ≡ true → (k ≡ 0) × (d ≡ 0)
@@ -47,17 +47,17 @@ module _ (t : ℕ → ℕ → ℕ → Turn) (en : Ends t) (a b : List ℕ) where
   -- the last character
   last-local : (d c : ℕ) (z : Turn) → t (suc d) c (getD a 0 0) ≡ z → turned z (λ k e. scan t k e a) .took ≤ 1 → turned z (λ k e. scan t k e a) .said ≡ true
       → turned (t (suc d) c (getD b 0 0)) (λ k e. scan t k e b) ≡ turned z (λ k e. scan t k e a)
-  last-local d c (on k e) q h s =
+  last-local d c (taking k e) q h s =
       let (k0, e0) = scan-none t k e a (omega arith) s in
-      let q′ : t (suc d) c (getD a 0 0) ≡ on 0 0 = rw (k0, e0) at q in
+      let q′ : t (suc d) c (getD a 0 0) ≡ close = rw (k0, e0) at q in
       rw (k0, e0, en d c (getD a 0 0) (getD b 0 0) q′, scan-done t a, scan-done t b)
-  last-local d c off q h s = false-true s
+  last-local d c breakOff q h s = false-true s
 
   turned-local : (u : List ℕ) (z : Turn) → ((k d : ℕ) → scan t k d (u ++ a) .took ≤ length u → scan t k d (u ++ a) .said ≡ true → scan t k d (u ++ b) ≡ scan t k d (u ++ a))
       → turned z (λ k e. scan t k e (u ++ a)) .took ≤ suc (length u) → turned z (λ k e. scan t k e (u ++ a)) .said ≡ true
       → turned z (λ k e. scan t k e (u ++ b)) ≡ turned z (λ k e. scan t k e (u ++ a))
-  turned-local u (on k d) r h s = ap after (r k d (omega arith) s)
-  turned-local u off r h s = false-true s
+  turned-local u (taking k d) r h s = ap after (r k d (omega arith) s)
+  turned-local u breakOff r h s = false-true s
 
   -- where it finds its end, nothing past it is seen
   scan-local : (u : List ℕ) (k d : ℕ) → scan t k d (u ++ a) .took ≤ length u → scan t k d (u ++ a) .said ≡ true → scan t k d (u ++ b) ≡ scan t k d (u ++ a)
@@ -70,12 +70,12 @@ module _ (t : ℕ → ℕ → ℕ → Turn) (en : Ends t) (a b : List ℕ) where
 
 -- before two characters that are the same
 turned-near : (z : Turn) (n : ℕ) (f g : ℕ → ℕ → Got Bool) → ((k d : ℕ) → f k d .took ≤ n → g k d ≡ f k d) → turned z f .took ≤ suc n → turned z g ≡ turned z f
-turned-near (on k d) n f g r h = ap after (r k d (omega arith))
-turned-near off n f g r h = refl
+turned-near (taking k d) n f g r h = ap after (r k d (omega arith))
+turned-near breakOff n f g r h = refl
 
 turned-still : (z : Turn) (f g : ℕ → ℕ → Got Bool) → turned z f .took ≤ 0 → turned z g ≡ turned z f
-turned-still (on k d) f g h = absurd (omega arith)
-turned-still off f g h = refl
+turned-still (taking k d) f g h = absurd (omega arith)
+turned-still breakOff f g h = refl
 
 scan-near : (t : ℕ → ℕ → ℕ → Turn) (u a b : List ℕ) → Near 2 a b → (k d : ℕ) → scan t k d (u ++ a) .took ≤ length u → scan t k d (u ++ b) ≡ scan t k d (u ++ a)
 unfolding scan

@@ -15,7 +15,7 @@ use Rattle.token.specs.Lists.{Lists}
 use Rattle.token.specs.Tokens.{Piece, tokens, placed, records}
 use Rattle.token.specs.Trivia.{isTrivia}
 use Rattle.token.proofs.Cover.{texts, cover}
-use Rattle.canon.specs.Broken.{isBroken}
+use Rattle.token.specs.Broken.{isBroken}
 use Rattle.canon.specs.Keyable.{firstBroken}
 use Rattle.canon.specs.Meaning.{Item, meant, gapBefore, bytesOf, itemsOf}
 use Rattle.canon.specs.Spelled.{Said, saidOf}

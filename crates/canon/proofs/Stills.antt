@@ -1,4 +1,4 @@
--- Of what trivia begins with, and of the end, nothing starts an identifier. A newline does not go on in one and is no emoji; and what is emoji is taken.
+-- Of what trivia begins with, and of the end, nothing starts an identifier. A newline does not go on in one and is not emoji; and what is emoji is taken.
 use Prim.Native.Nat.{ℕ, _≤_}
 use mathlib.Core.Path.{_≡_, refl, sym, _∙_}
 use mathlib.Core.List.{List, [], _∷_}

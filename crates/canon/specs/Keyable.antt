@@ -8,7 +8,7 @@ use Rattle.eaters.specs.Find.{Place, at, nowhere}
 use Rattle.token.specs.declared.Token.{Token}
 use Rattle.token.specs.Lists.{Lists}
 use Rattle.token.specs.Tokens.{records}
-use Rattle.canon.specs.Broken.{isBroken}
+use Rattle.token.specs.Broken.{isBroken}
 
 -- where the first broken one of some tokens starts
 abbrev pub firstBroken : List Token → Place

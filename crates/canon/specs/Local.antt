@@ -5,13 +5,13 @@ use mathlib.Core.Bool.{Bool, true}
 use mathlib.Core.List.{List, [], _∷_, _++_}
 use lib.ListN.{length, getD}
 use Rattle.basics.specs.Tests.{isIn}
-use Rattle.classes.specs.Whitespace.{whitespace}
+use Rattle.classes.specs.Whitespace.{whitespacePoints}
 use Rattle.eaters.specs.Eat.{Eater}
 use Rattle.token.specs.Names.{'newline', '/'}
 
 -- what trivia begins with, and the 0 that stands for the end
 abbrev pub stills : List ℕ
-stills = 0 ∷ '/' ∷ whitespace
+stills = 0 ∷ '/' ∷ whitespacePoints
 
 -- a and b begin alike: n characters, or all of both
 pub data Near : (n : ℕ) (a b : List ℕ) → Type 0 where

@@ -1,6 +1,6 @@
 -- What a check's verdict says of the lists and of the answer.
 use Prim.Native.Nat.{ℕ}
-use mathlib.Core.Path.{_≡_, refl, sym, _∙_}
+use mathlib.Core.Path.{_≡_, sym, _∙_}
 use mathlib.Core.List.{List}
 use mathlib.Core.Bool.{Bool, true, false}
 use Rattle.refusal.specs.declared.Numbers.{Numbers}
@@ -8,23 +8,21 @@ use Rattle.refusal.specs.Numbers.{numbers, badNumbers}
 use Rattle.refusal.specs.declared.Bad.{Bad}
 use Rattle.refusal.specs.declared.Verdict.{Verdict}
 use Rattle.refusal.specs.declared.Verdict.the-variants.{Fine, Refused}
-use Rattle.refusal.specs.Order.{first}
+use Rattle.refusal.specs.Order.{first, refusedOr}
 use Rattle.refusal.proofs.Orders.{first-1, first-2}
 use Rattle.ranges.specs.Rules.{listVerdict, Good}
 use Rattle.ranges.proofs.Laws.{fine-good}
 use Rattle.text.specs.Verdicts.{tooLong, utf8Verdict}
 use Rattle.classes.specs.declared.Answer.{Answer}
 use Rattle.classes.specs.declared.Answer.the-variants as answer
-use Rattle.classes.specs.Answers.{answerOf, answerNumbers, identVerdict}
+use Rattle.classes.specs.Answers.{answerNumbers, identVerdict}
 
 -- the answer of a call whose check said v
 module _ {v w : Verdict} (e : v ≡ w) where
-  pub says : {r b : Bool} → v ≡ Fine → r ≡ b → answer.Is r ≡ answerOf w b
-  unfolding answerOf
+  pub says : {r b : Bool} → v ≡ Fine → r ≡ b → answer.Is r ≡ refusedOr answer.Refused w (answer.Is b)
   says k f = rw (f, ← e, k)
 
-  pub refuses : {bad : Bad} (b : Bool) → v ≡ Refused bad → answer.Refused bad ≡ answerOf w b
-  unfolding answerOf
+  pub refuses : {bad : Bad} (b : Bool) → v ≡ Refused bad → answer.Refused bad ≡ refusedOr answer.Refused w (answer.Is b)
   refuses b k = rw (← e, k)
 
 -- a list that its check lets through is good

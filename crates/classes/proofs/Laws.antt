@@ -1,4 +1,4 @@
--- Document 01: a number that is no Unicode scalar value is in no class.
+-- Document 01: a number that is not a Unicode scalar value is in no class.
 use Prim.Native.Nat.{ℕ, _≤_, _<_}
 use mathlib.Core.Path.{_≡_, sym}
 use mathlib.Core.List.{List}

@@ -26,7 +26,7 @@ idStart starts c = pick (ltb c 0x80) (or (letter c) (underscore c)) (inPairs c s
 unfoldable pub idContinue : (continues : List ℕ) → ℕ → Bool
 idContinue continues c = pick (ltb c 0x80) (or (letter c) (or (underscore c) (digit c))) (inPairs c continues)
 
--- of characters: nothing is no identifier; the first one starts it, and every other one goes on in it
+-- of characters: no characters are not an identifier; the first one starts it, and every other one goes on in it
 abbrev pub isIdent : (starts continues : List ℕ) → List ℕ → Bool
 isIdent starts continues [] = false
 isIdent starts continues (c ∷ cs) = and (idStart starts c) (all (idContinue continues) cs)

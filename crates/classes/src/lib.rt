@@ -183,7 +183,7 @@ fn all_continue(text: &[u8], from: usize, continues: &[u32]) -> bool
 }
 
 // Whether the characters of a text are an identifier.
-pub fn ident(text: &[u8], starts: &[u32], continues: &[u32]) -> bool
+fn ident(text: &[u8], starts: &[u32], continues: &[u32]) -> bool
     requires { ⌜ Good (now starts) × Good (now continues) ⌝ }
     ensures { λ r. ⌜ r ≡ isIdent (now (starts .entry)) (now (continues .entry)) (chars (now (text .entry))) ⌝ }
 {

@@ -10,7 +10,7 @@ use lib.ListN.{length, getD, drop}
 use native.Mathlib.Omega.{arith}
 use borrow.Author.Tests.{eqb-true}
 use Rattle.basics.specs.Choice.{pick, and}
-use Rattle.eaters.specs.Scan.{on, scan}
+use Rattle.eaters.specs.Scan.{go, skip, deeper, shallower, scan}
 use Rattle.token.specs.Names.{is, '*', '/'}
 use Rattle.token.specs.Comments.{blockTurn}
 use Rattle.cursor.specs.declared.Cursor.{Cursor}
@@ -25,23 +25,23 @@ use Rattle.cursor.proofs.Loops.{Inside, inside-start, inside-on, inside-skip, i
 
 -- the turns
 not-pair : (c e x y : ℕ) → (c ≡ x → e ≡ y → ⊥) → and (is x c) (is y e) ≡ false
-not-pair c e x y n = go (eqb c x) (eqb e y) refl refl
+not-pair c e x y n = by (eqb c x) (eqb e y) refl refl
   where
-    go : (s t : Bool) → eqb c x ≡ s → eqb e y ≡ t → and s t ≡ false
-    go true true p q = absurd (n (eqb-true c x p) (eqb-true e y q))
-    go true false p q = refl
-    go false t p q = refl
+    by : (s t : Bool) → eqb c x ≡ s → eqb e y ≡ t → and s t ≡ false
+    by true true p q = absurd (n (eqb-true c x p) (eqb-true e y q))
+    by true false p q = refl
+    by false t p q = refl
 
-turn-open : (d c e : ℕ) → c ≡ 0x2F → e ≡ 0x2A → blockTurn d c e ≡ on 1 (suc d)
+turn-open : (d c e : ℕ) → c ≡ 0x2F → e ≡ 0x2A → blockTurn d c e ≡ deeper d
 turn-open d c e p q = rw (p, q)
 
-turn-close : (d c e : ℕ) → c ≡ 0x2A → e ≡ 0x2F → blockTurn d c e ≡ on 1 (pred d)
+turn-close : (d c e : ℕ) → c ≡ 0x2A → e ≡ 0x2F → blockTurn d c e ≡ shallower d
 turn-close d c e p q = rw (p, q)
 
-turn-other : (d c e : ℕ) → (c ≡ 0x2F → e ≡ 0x2A → ⊥) → (c ≡ 0x2A → e ≡ 0x2F → ⊥) → blockTurn d c e ≡ on 0 d
+turn-other : (d c e : ℕ) → (c ≡ 0x2F → e ≡ 0x2A → ⊥) → (c ≡ 0x2A → e ≡ 0x2F → ⊥) → blockTurn d c e ≡ go d
 turn-other d c e n m =
-    ap (λ (t : Bool). pick t (on 1 (suc d)) (pick (and (is '*' c) (is '/' e)) (on 1 (pred d)) (on 0 d))) (not-pair c e 0x2F 0x2A n)
-    ∙ ap (λ (t : Bool). pick t (on 1 (pred d)) (on 0 d)) (not-pair c e 0x2A 0x2F m)
+    ap (λ (t : Bool). pick t (deeper d) (pick (and (is '*' c) (is '/' e)) (shallower d) (go d))) (not-pair c e 0x2F 0x2A n)
+    ∙ ap (λ (t : Bool). pick t (shallower d) (go d)) (not-pair c e 0x2A 0x2F m)
 
 -- the search began at a; it is at b with this depth, which is at least 1 and has no more than a character taken for each step
 pub record Deep (s : List ℕ) (a b : Cursor) (d : ℕ) : Type 0 where
@@ -53,16 +53,16 @@ pub deep-start : (s : List ℕ) (a : Cursor) → Deep s a a 1
 deep-start s a = record { inside = inside-start blockTurn s a; some = omega arith; few = omega arith }
 
 -- the steps of the search at a depth that is not 0
-on-at : (d : ℕ) {s : List ℕ} {a b n : Cursor} {c : ℕ} (e : ℕ) → 1 ≤ d → Inside blockTurn s a b d → Here s b c n → blockTurn d c (getD (rest s n) 0 0) ≡ on 0 e → Inside blockTurn s a n e
+on-at : (d : ℕ) {s : List ℕ} {a b n : Cursor} {c : ℕ} (e : ℕ) → 1 ≤ d → Inside blockTurn s a b d → Here s b c n → blockTurn d c (getD (rest s n) 0 0) ≡ go e → Inside blockTurn s a n e
 on-at zero e h i k q = absurd (omega arith)
 on-at (suc d) e h i k q = inside-on blockTurn i k e q
 
-skip-at : (d : ℕ) {s : List ℕ} {a b n m : Cursor} {c : ℕ} (e : ℕ) → 1 ≤ d → Inside blockTurn s a b d → Here s b c n → blockTurn d c (getD (rest s n) 0 0) ≡ on 1 (suc e) → Moved s n m (drop 1 (rest s n)) → Inside blockTurn s a m (suc e)
+skip-at : (d : ℕ) {s : List ℕ} {a b n m : Cursor} {c : ℕ} (e : ℕ) → 1 ≤ d → Inside blockTurn s a b d → Here s b c n → blockTurn d c (getD (rest s n) 0 0) ≡ skip (suc e) → Moved s n m (drop 1 (rest s n)) → Inside blockTurn s a m (suc e)
 skip-at zero e h i k q m = absurd (omega arith)
 skip-at (suc d) e h i k q m = inside-skip blockTurn i k e q m
 
 -- the last one: the character is there
-last-at : (d e : ℕ) {s : List ℕ} {a b n m : Cursor} {c y : ℕ} → Inside blockTurn s a b d → Here s b c n → blockTurn d c (getD (rest s n) 0 0) ≡ on 1 e → d ≡ 1
+last-at : (d e : ℕ) {s : List ℕ} {a b n m : Cursor} {c y : ℕ} → Inside blockTurn s a b d → Here s b c n → blockTurn d c (getD (rest s n) 0 0) ≡ skip e → d ≡ 1
     → y ≡ getD (rest s n) 0 0 → y ≡ 0x2F → Moved s n m (drop 1 (rest s n)) → Inside blockTurn s a m e
 last-at zero e i h q o f z k = absurd (omega arith)
 last-at (suc d) e i h q o f z k = inside-past blockTurn i h e q f (omega arith) k
@@ -108,8 +108,8 @@ module _ {s : List ℕ} {a b : Cursor} {d c : ℕ} {n : Cursor} {r : Step} (x : 
           let w : suc d ≡ d + 1 = omega arith in
           record { inside = subst (Inside blockTurn s a m) w g; some = omega arith; few = omega (arith, i .few, two (omega arith)) }
 
-      closing : (o : ℕ) → d ≡ suc o → c ≡ 0x2A → e ≡ 0x2F → blockTurn d c (getD (rest s n) 0 0) ≡ on 1 o
-      closing o w p q = turn-close d c (getD (rest s n) 0 0) p (sym f ∙ q) ∙ ap (λ (z : ℕ). on 1 (pred z)) w
+      closing : (o : ℕ) → d ≡ suc o → c ≡ 0x2A → e ≡ 0x2F → blockTurn d c (getD (rest s n) 0 0) ≡ skip o
+      closing o w p q = turn-close d c (getD (rest s n) 0 0) p (sym f ∙ q) ∙ ap shallower w
 
       pub close-in : c ≡ 0x2A → e ≡ 0x2F → (d ≡ 1 → ⊥) → Deep s a m (d - 1)
       close-in p q o =

@@ -11,7 +11,7 @@ use Rattle.basics.proofs.Choices.{by-pick}
 use Rattle.classes.specs.Whitespace.{isWhitespace}
 use Rattle.eaters.specs.Eat.{Read, give, while}
 use Rattle.eaters.specs.Look.{ifEat}
-use Rattle.eaters.specs.Scan.{Turn, on, turned, scan}
+use Rattle.eaters.specs.Scan.{Turn, go, skip, turned, scan}
 use Rattle.token.specs.declared.DocStyle.{DocStyle}
 use Rattle.token.specs.declared.TokenKind.{TokenKind}
 use Rattle.token.specs.declared.TokenKind.the-variants.{LineComment, BlockComment, Whitespace, Slash}
@@ -33,7 +33,7 @@ pub line-in : {s : List ℕ} {a b : Cursor} {d : DocStyle} → d ≡ lineDoc (re
 line-in {s} {a} {b} {d} e m = ran-word (ran-say (λ (t : List ℕ). LineComment (lineDoc t)) (ran-while inLine m)) (ap LineComment (e ∙ sym (line-style (rest s a))))
 
 -- a block comment takes two characters, or all that there are
-module _ (d c e : ℕ) (P : Turn → Type 0) (one : P (on 0 (suc d))) (two : (f : ℕ) → P (on 1 f)) where
+module _ (d c e : ℕ) (P : Turn → Type 0) (one : P (go (suc d))) (two : (f : ℕ) → P (skip f)) where
   by-block : P (blockTurn (suc d) c e)
   by-block =
       by-pick P (and (is '/' c) (is '*' e)) _ _ (λ t. two (suc (suc d)))

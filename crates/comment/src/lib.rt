@@ -17,7 +17,7 @@ use token::DocStyle;
 use token::TokenKind;
 
 // Past the whitespace at a cursor.
-pub fn eat_whitespace(text: &[u8], from: Cursor) -> Cursor
+fn eat_whitespace(text: &[u8], from: Cursor) -> Cursor
     ensures { λ r. ⌜ Moved (now (text .entry)) from r (left (while isWhitespace) (rest (now (text .entry)) from)) ⌝ }
 {
     let mut cur = from;
@@ -81,7 +81,7 @@ fn line_doc(text: &[u8], from: Cursor) -> DocStyle
 }
 
 // A line comment, after its two slashes.
-pub fn line_comment(text: &[u8], from: Cursor) -> Lexed
+fn line_comment(text: &[u8], from: Cursor) -> Lexed
     ensures { λ r. ⌜ Ran lineComment (now (text .entry)) from (r .next) (r .kind) ⌝ }
 {
     let doc_style = line_doc(text, from);
@@ -148,7 +148,7 @@ fn block_rest(text: &[u8], from: Cursor) -> Ended
 }
 
 // A block comment, after its slash and star.
-pub fn block_comment(text: &[u8], from: Cursor) -> Lexed
+fn block_comment(text: &[u8], from: Cursor) -> Lexed
     ensures { λ r. ⌜ Ran blockComment (now (text .entry)) from (r .next) (r .kind) ⌝ }
 {
     let doc_style = block_doc(text, from);

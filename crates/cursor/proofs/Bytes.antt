@@ -1,22 +1,26 @@
 -- Moves in bytes: what a run of characters of one kind took, and one character.
-use Prim.Native.Nat.{ℕ, _+_, _≤_, _<_}
-use mathlib.Core.Path.{_≡_, refl, ap, _∙_}
+use Prim.Native.Nat.{ℕ, _+_, _-_, _≤_, _<_}
+use mathlib.Core.Path.{_≡_, refl, sym, ap, _∙_}
 use mathlib.Core.Bool.{Bool, true, false}
 use mathlib.Core.List.{List, [], _∷_}
-use lib.ListN.{length, getD, take, drop}
+use lib.ListN.{length, getD, take, drop, length-drop}
 use native.Mathlib.Omega.{arith}
 use Rattle.basics.specs.Choice.{pick}
 use Rattle.text.specs.Chars.{width, size}
+use Rattle.text.proofs.Texts.{size-chars, width-some}
 use Rattle.eaters.specs.Eat.{takeWhile, while, eat}
 use Rattle.eaters.proofs.Fits.{fits-while}
 use Rattle.cursor.specs.declared.Cursor.{Cursor}
-use Rattle.cursor.specs.Cursors.{rest}
+use Rattle.cursor.specs.declared.Step.{Step}
+use Rattle.cursor.specs.declared.Step.the-variants.{Got}
+use Rattle.cursor.specs.Cursors.{rest, rest-is, Seen}
 use Rattle.cursor.specs.Moved.{Moved, passed}
 use Rattle.token.specs.declared.TokenKind.the-variants as kind
+use Rattle.token.proofs.Cover.{size-append}
 use Rattle.cursor.specs.declared.Kinded.{Kinded}
 use Rattle.cursor.specs.declared.Kinded.the-variants.{Plain, Literal}
 use Rattle.cursor.specs.Ran.{left, kindFrom, Past}
-use Rattle.cursor.proofs.Moves.{bumped}
+use Rattle.cursor.proofs.Moves.{char-at, bumped}
 use Rattle.cursor.proofs.Runs.{ran-bytes, ran-eat}
 use Rattle.cursor.proofs.Loops.{ran-while}
 
@@ -32,7 +36,7 @@ pub while-bytes : (p : ℕ → Bool) {s : List ℕ} {a b : Cursor} → Moved s a
 unfolding while
 while-bytes p {s} {a} m = ran-bytes (while p) (ran-while p m) (fits-while p .fits (rest s a) (omega arith)) ∙ ap (λ (l : List ℕ). a .at + size l) (take-while p (rest s a))
 
--- past a character that is no 0
+-- past a character that is not 0
 pub bump-bytes : {s : List ℕ} {b d : Cursor} {x : ℕ} → x ≡ getD (rest s b) 0 0 → 0 < x → Moved s b d (drop 1 (rest s b)) → d .at ≡ b .at + width x
 unfolding eat
 bump-bytes {s} {b} {d} {x} e h m =
@@ -40,6 +44,16 @@ bump-bytes {s} {b} {d} {x} e h m =
     let n : 1 ≤ length (rest s b) = omega (arith, ap length f) in
     let t : take 1 (rest s b) ≡ x ∷ [] = ap (take 1) f in
     ran-bytes (eat 1) (ran-eat m) n ∙ ap (λ (l : List ℕ). b .at + size l) t ∙ omega arith
+
+-- a character ends within the text, and a move that starts there ends there
+pub char-within : {s : List ℕ} {a d : Cursor} {r : Step} {c : ℕ} → r ≡ Got c d → Seen s a r → d .at ≤ length s
+char-within {s} {a} {c = c} e h =
+    omega (arith, ap size (sym (rest-is s a) ∙ char-at e h .chars), char-at e h .bytes, width-some c, size-chars (drop (a .at) s), length-drop (a .at) s)
+
+pub moved-within : {s cs : List ℕ} {a b : Cursor} → Moved s a b cs → b .at ≤ a .at + (length s - a .at)
+moved-within {s} {cs} {a} m =
+    let p = passed m in
+    omega (arith, p .bytes, size-append (p .text) cs, ap size (p .whole ∙ rest-is s a), size-chars (drop (a .at) s), length-drop (a .at) s)
 
 -- the kind of a token, some bytes further on
 pub shifted : (k : Kinded) (n w : ℕ) (a b c : Cursor) → Past b c k → b .at ≡ a .at + w → kindFrom n a k ≡ kindFrom (n + w) b k

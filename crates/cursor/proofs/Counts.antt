@@ -1,4 +1,4 @@
--- Counting characters x at a cursor, in the facts of the code: as many are counted as were passed; the others are still there.
+-- Counting the characters x at a cursor, in the facts of the code: as many are counted as were passed; the others are still there.
 use Prim.Native.Nat.{ℕ, suc, _+_, _*_, _^_, _≤_, _<_}
 use mathlib.Core.Path.{_≡_, refl, sym, ap}
 use mathlib.Core.List.{List, _∷_}
@@ -7,14 +7,13 @@ use mir.Syntax.{w64}
 use lib.ListN.{length}
 use native.Mathlib.Omega.{arith}
 use borrow.Author.Tests.{eq-eqb, ne-eqb}
-use Rattle.eaters.specs.Eat.{takeWhile, while}
+use Rattle.eaters.specs.Eat.{takeWhile}
 use Rattle.token.specs.Names.{is}
 use Rattle.cursor.specs.declared.Cursor.{Cursor}
 use Rattle.cursor.specs.declared.Step.{Step}
 use Rattle.cursor.specs.declared.Step.the-variants.{Got, Over}
 use Rattle.cursor.specs.Cursors.{rest, Seen}
-use Rattle.cursor.specs.Moved.{Moved}
-use Rattle.cursor.specs.Ran.{left}
+use Rattle.cursor.specs.Counted.{Counted}
 use Rattle.cursor.proofs.Steps.{rest-short}
 use Rattle.cursor.proofs.Moves.{char-at, end-at}
 use Rattle.cursor.proofs.Loops.{Eaten, eaten-none, eaten-on, eaten-off, eaten-over}
@@ -34,11 +33,6 @@ pub record Counting (x : ℕ) (s : List ℕ) (a b : Cursor) (n : ℕ) : Type 0 w
   pub count : n + run x (rest s b) ≡ run x (rest s a)
   pub few : n + length (rest s b) ≤ length (rest s a)
 
--- all of them are passed
-pub record AllCounted (x : ℕ) (s : List ℕ) (a b : Cursor) (n : ℕ) : Type 0 where
-  pub moved : Moved s a b (left (while (is x)) (rest s a))
-  pub count : n ≡ run x (rest s a)
-
 pub counting-none : (x : ℕ) (s : List ℕ) (a : Cursor) → Counting x s a a 0
 counting-none x s a = record { eaten = eaten-none (is x) s a; count = omega arith; few = omega arith }
 
@@ -55,12 +49,12 @@ module _ {x : ℕ} {s : List ℕ} {a b : Cursor} {n : ℕ} {r : Step} (i : Count
           few = omega (arith, i .few, ap length (char-at e h .chars));
         }
 
-    pub counting-off : (c ≡ x → ⊥) → AllCounted x s a b n
+    pub counting-off : (c ≡ x → ⊥) → Counted x s a (record { next = b; count = n })
     counting-off q =
         record {
           moved = eaten-off (is x) (i .eaten) h e (sym (ne-eqb c x q)) refl;
           count = omega (arith, i .count, ap (run x) (char-at e h .chars), run-off x c (rest s d) q);
         }
 
-  pub counting-over : r ≡ Over → AllCounted x s a b n
+  pub counting-over : r ≡ Over → Counted x s a (record { next = b; count = n })
   counting-over e = record { moved = eaten-over (is x) (i .eaten) h e; count = omega (arith, i .count, ap (run x) (end-at e h)) }

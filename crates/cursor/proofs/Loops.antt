@@ -5,7 +5,7 @@ use mathlib.Core.Bool.{Bool, true, false}
 use mathlib.Core.List.{List, [], _∷_}
 use lib.ListN.{getD, drop}
 use Rattle.eaters.specs.Eat.{takeWhile, while}
-use Rattle.eaters.specs.Scan.{after, Turn, on, off, scan}
+use Rattle.eaters.specs.Scan.{after, Turn, taking, breakOff, go, skip, scan}
 use Rattle.cursor.specs.declared.Cursor.{Cursor}
 use Rattle.cursor.specs.declared.Step.{Step}
 use Rattle.cursor.specs.declared.Step.the-variants.{Got as Char, Over}
@@ -66,11 +66,11 @@ unfolding scan
 scan-done t [] = refl
 scan-done t (c ∷ cs) = refl
 
-scan-turn : (t : ℕ → ℕ → ℕ → Turn) (d c k e : ℕ) (cs : List ℕ) → t (suc d) c (getD cs 0 0) ≡ on k e → scan t 0 (suc d) (c ∷ cs) ≡ after (scan t k e cs)
+scan-turn : (t : ℕ → ℕ → ℕ → Turn) (d c k e : ℕ) (cs : List ℕ) → t (suc d) c (getD cs 0 0) ≡ taking k e → scan t 0 (suc d) (c ∷ cs) ≡ after (scan t k e cs)
 unfolding scan
 scan-turn t d c k e cs q = rw q
 
-scan-off : (t : ℕ → ℕ → ℕ → Turn) (d c : ℕ) (cs : List ℕ) → t (suc d) c (getD cs 0 0) ≡ off → scan t 0 (suc d) (c ∷ cs) ≡ record { took = 0; said = false }
+scan-off : (t : ℕ → ℕ → ℕ → Turn) (d c : ℕ) (cs : List ℕ) → t (suc d) c (getD cs 0 0) ≡ breakOff → scan t 0 (suc d) (c ∷ cs) ≡ record { took = 0; said = false }
 unfolding scan
 scan-off t d c cs q = rw q
 
@@ -99,7 +99,7 @@ inside-start t s a = record { moved = start s a; same = refl; word = refl }
 module _ (t : ℕ → ℕ → ℕ → Turn) {s : List ℕ} {a b : Cursor} {d : ℕ} (i : Inside t s a b (suc d)) where
   module _ {c : ℕ} {n : Cursor} (h : Here s b c n) where
     -- one character is taken
-    pub inside-on : (e : ℕ) → t (suc d) c (getD (rest s n) 0 0) ≡ on 0 e → Inside t s a n e
+    pub inside-on : (e : ℕ) → t (suc d) c (getD (rest s n) 0 0) ≡ go e → Inside t s a n e
     inside-on e q =
         let z : scan t 0 (suc d) (rest s b) ≡ after (scan t 0 e (rest s n)) = ap (scan t 0 (suc d)) (h .chars) ∙ scan-turn t d c 0 e (rest s n) q in
         record {
@@ -109,7 +109,7 @@ module _ (t : ℕ → ℕ → ℕ → Turn) {s : List ℕ} {a b : Cursor} {d : �
         }
 
     -- two characters are taken, and the second is there
-    pub inside-past : {f : ℕ} {m : Cursor} (e : ℕ) → t (suc d) c (getD (rest s n) 0 0) ≡ on 1 e → f ≡ getD (rest s n) 0 0 → 0 < f → Moved s n m (drop 1 (rest s n)) → Inside t s a m e
+    pub inside-past : {f : ℕ} {m : Cursor} (e : ℕ) → t (suc d) c (getD (rest s n) 0 0) ≡ skip e → f ≡ getD (rest s n) 0 0 → 0 < f → Moved s n m (drop 1 (rest s n)) → Inside t s a m e
     inside-past {f} {m} e q g o k =
         let v : rest s n ≡ f ∷ rest s m = bumped g o k in
         let z : scan t 0 (suc d) (rest s b) ≡ after (scan t 1 e (rest s n)) = ap (scan t 0 (suc d)) (h .chars) ∙ scan-turn t d c 1 e (rest s n) q in
@@ -122,7 +122,7 @@ module _ (t : ℕ → ℕ → ℕ → Turn) {s : List ℕ} {a b : Cursor} {d : �
         }
 
     -- two are taken, or the one that is there; the search goes on
-    pub inside-skip : {m : Cursor} (e : ℕ) → t (suc d) c (getD (rest s n) 0 0) ≡ on 1 (suc e) → Moved s n m (drop 1 (rest s n)) → Inside t s a m (suc e)
+    pub inside-skip : {m : Cursor} (e : ℕ) → t (suc d) c (getD (rest s n) 0 0) ≡ skip (suc e) → Moved s n m (drop 1 (rest s n)) → Inside t s a m (suc e)
     inside-skip {m} e q k =
         let z : scan t 0 (suc d) (rest s b) ≡ after (scan t 1 (suc e) (rest s n)) = ap (scan t 0 (suc d)) (h .chars) ∙ scan-turn t d c 1 (suc e) (rest s n) q in
         let y : (cs : List ℕ) → scan t 1 (suc e) cs .said ≡ scan t 0 (suc e) (drop 1 cs) .said = skips in
@@ -137,7 +137,7 @@ module _ (t : ℕ → ℕ → ℕ → Turn) {s : List ℕ} {a b : Cursor} {d : �
         skips (c ∷ cs) = skip-said t (suc e) c cs
 
     -- the turn breaks off
-    pub inside-off : t (suc d) c (getD (rest s n) 0 0) ≡ off → Ran (scan t 0 1) s a b false
+    pub inside-off : t (suc d) c (getD (rest s n) 0 0) ≡ breakOff → Ran (scan t 0 1) s a b false
     inside-off q =
         let z : scan t 0 (suc d) (rest s b) ≡ record { took = 0; said = false } = ap (scan t 0 (suc d)) (h .chars) ∙ scan-off t d c (rest s n) q in
         record { moved = arrive (i .moved) (rw z at (i .same)); said = rw z at (i .word) }

@@ -2,14 +2,13 @@
 use Prim.Native.Nat.{ℕ, _+_, _≤_, _<_}
 use mathlib.Core.Path.{_≡_, sym, ap, subst, _∙_}
 use mathlib.Core.List.{List, [], _∷_}
-use mathlib.Core.Bool.{true, false}
 use lib.ListN.{length, getD, drop, length-drop}
 use lib.Seq.{drop-drop, getD-drop}
 use native.Mathlib.Omega.{arith}
 use Rattle.cursor.specs.declared.Cursor.{Cursor}
 use Rattle.cursor.specs.declared.Step.{Step}
 use Rattle.cursor.specs.declared.Step.the-variants.{Got, Over}
-use Rattle.cursor.specs.Cursors.{rest, isOver, Here, Seen, char, end}
+use Rattle.cursor.specs.Cursors.{rest, Here, Seen, char, end}
 use Rattle.cursor.specs.Moved.{Moved, start, over, left-of, onward, arrive, then}
 
 -- a peek whose case is known
@@ -39,23 +38,10 @@ module _ {s : List ℕ} {b : Cursor} {r : Step} where
   pub bump-gone : r ≡ Over → Seen s b r → Moved s b b (drop 1 (rest s b))
   bump-gone e h = arrive (start s b) (rw (end-at e h))
 
-  pub eof-there : {x : ℕ} {d : Cursor} → r ≡ Got x d → Seen s b r → false ≡ isOver (rest s b)
-  eof-there e h = rw (char-at e h .chars)
+pub second-is : (s : List ℕ) {a b : Cursor} {x : ℕ} → Moved s a b (drop 1 (rest s a)) → x ≡ getD (rest s b) 0 0 → x ≡ getD (rest s a) 1 0
+second-is s {a} m e = e ∙ ap (λ (l : List ℕ). getD l 0 0) (left-of m) ∙ getD-drop 1 (rest s a) 0 0
 
-  pub eof-gone : r ≡ Over → Seen s b r → true ≡ isOver (rest s b)
-  eof-gone e h = rw (end-at e h)
-
-module _ (s : List ℕ) {a b : Cursor} {x : ℕ} (m : Moved s a b (drop 1 (rest s a))) where
-  next-is : (k : ℕ) → x ≡ getD (rest s b) k 0 → x ≡ getD (rest s a) (1 + k) 0
-  next-is k e = e ∙ ap (λ (l : List ℕ). getD l k 0) (left-of m) ∙ getD-drop 1 (rest s a) k 0
-
-  pub second-is : x ≡ getD (rest s b) 0 0 → x ≡ getD (rest s a) 1 0
-  second-is = next-is 0
-
-  pub third-is : x ≡ getD (rest s b) 1 0 → x ≡ getD (rest s a) 2 0
-  third-is = next-is 1
-
--- a first character that is no 0 is there
+-- a first character that is not 0 is there
 pub front : (cs : List ℕ) {x : ℕ} → x ≡ getD cs 0 0 → 0 < x → cs ≡ x ∷ drop 1 cs
 front [] e h = absurd (omega arith)
 front (y ∷ cs) e h = rw e

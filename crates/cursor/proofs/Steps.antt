@@ -1,8 +1,8 @@
 -- The laws of one step of a cursor. These alone look into `rest` and `stepAt`.
-use Prim.Native.Nat.{ℕ, _+_, _≤_}
-use mathlib.Core.Path.{_≡_, sym, ap, _∙_}
+use Prim.Native.Nat.{ℕ, _+_, _≤_, _<_}
+use mathlib.Core.Path.{_≡_, refl, sym, ap, _∙_}
 use mathlib.Core.List.{List, _∷_}
-use lib.ListN.{length, drop, length-drop}
+use lib.ListN.{length, getD, drop, length-drop}
 use native.Mathlib.Omega.{arith}
 use Rattle.text.specs.declared.Decoded.{Decoded}
 use Rattle.text.specs.declared.Decoded.the-variants.{Char, End, Ill}
@@ -10,7 +10,7 @@ use Rattle.text.specs.Utf8.{decoded}
 use Rattle.text.specs.Chars.{chars}
 use Rattle.text.proofs.Coding.{Fact}
 use Rattle.text.proofs.Texts.{told, size-chars, few-chars}
-use Rattle.text.proofs.Places.{char-chars, end-chars, ill-chars}
+use Rattle.text.proofs.Places.{at-ascii, char-chars, end-chars, ill-chars}
 use Rattle.cursor.specs.declared.Cursor.{Cursor}
 use Rattle.cursor.specs.declared.Step.the-variants.{Got, Over}
 use Rattle.cursor.specs.Cursors.{rest, rest-is, onto, stepAt, Seen, char, end}
@@ -33,6 +33,14 @@ module _ (s : List ℕ) (c : Cursor) {d : Decoded} (e : d ≡ decoded (drop (c .
   pub seen-ill : d ≡ Ill → Seen s c Over
   seen-ill k = end (rest-is s c ∙ ill-chars s (c .at) e k)
 
+-- from a place on
+pub rest-at : (s : List ℕ) (c : Cursor) {at : ℕ} → c .at ≡ at → rest s c ≡ chars (drop at s)
+rest-at s c e = rest-is s c ∙ ap (λ (n : ℕ). chars (drop n s)) e
+
 -- a text has no more characters than bytes
 pub rest-short : (s : List ℕ) (c : Cursor) → length (rest s c) ≤ length s
 rest-short s c = rw (rest-is s c) (omega (arith, few-chars (chars (drop (c .at) s)), size-chars (drop (c .at) s), length-drop (c .at) s))
+
+-- a byte of ASCII at a cursor
+pub seen-ascii : (s : List ℕ) (c : Cursor) {x : ℕ} → c .at < length s → x ≡ getD s (c .at) 0 → x < 0x80 → Seen s c (Got x (record { at = c .at + 1 }))
+seen-ascii s c {x} h e l = seen-char s c (at-ascii s (c .at) h e l) refl

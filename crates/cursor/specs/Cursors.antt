@@ -1,8 +1,7 @@
--- A cursor in a text: what is left from it on, and what a peek tells.
+-- A cursor in a text: what is left from it on, and what a peek gives.
 use Prim.Native.Nat.{ℕ, _+_}
 use mathlib.Core.Path.{_≡_, refl}
 use mathlib.Core.List.{List, [], _∷_}
-use mathlib.Core.Bool.{Bool, true, false}
 use lib.ListN.{drop}
 use Rattle.text.specs.declared.Decoded.{Decoded}
 use Rattle.text.specs.declared.Decoded.the-variants.{Char, End, Ill}
@@ -20,11 +19,6 @@ pub rest-is : (s : List ℕ) (c : Cursor) → rest s c ≡ chars (drop (c .at) s
 unfolding rest
 rest-is s c = refl
 
--- nothing is left
-abbrev pub isOver : List ℕ → Bool
-isOver [] = true
-isOver (c ∷ cs) = false
-
 -- the character at a cursor, and the cursor past it
 abbrev pub onto : (at : ℕ) → Decoded → Step
 onto at (Char x w) = Got x (record { at = at + w })
@@ -41,7 +35,7 @@ pub record Here (s : List ℕ) (c : Cursor) (x : ℕ) (d : Cursor) : Type 0 wher
   pub scalar : Scalar x
   pub bytes : d .at ≡ c .at + width x
 
--- what a peek at a cursor tells
+-- what a peek at a cursor gives
 pub data Seen (s : List ℕ) (c : Cursor) : Step → Type 0 where
   char : {x : ℕ} {d : Cursor} → Here s c x d → Seen s c (Got x d)
   end : rest s c ≡ [] → Seen s c Over

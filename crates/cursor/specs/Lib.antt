@@ -1,3 +1,4 @@
 pub mod Cursors
 pub mod Moved
 pub mod Ran
+pub mod Counted

@@ -9,6 +9,7 @@ use Rattle.token.specs.declared.TokenKind.the-variants as kind
 use Rattle.cursor.specs.declared.Cursor.{Cursor}
 use Rattle.cursor.specs.declared.Kinded.{Kinded}
 use Rattle.cursor.specs.declared.Kinded.the-variants.{Plain, Literal}
+use Rattle.cursor.specs.declared.Scanned.{Scanned}
 use Rattle.cursor.specs.Cursors.{rest}
 use Rattle.cursor.specs.Moved.{Moved}
 
@@ -21,7 +22,7 @@ pub record Ran {A : Type 0} (m : Eater A) (s : List ℕ) (c d : Cursor) (x : A) 
   pub moved : Moved s c d (left m (rest s c))
   pub said : x ≡ m (rest s c) .said
 
--- the kind of a token of which `before` bytes are taken at c: its suffix starts so many bytes on
+-- the kind of a token of which `before` bytes are taken at c. A suffix starts at d, which is counted from the token's start.
 abbrev pub kindFrom : (before : ℕ) → Cursor → Kinded → TokenKind
 kindFrom before c (Plain k) = k
 kindFrom before c (Literal k d) = kind.Literal k (before + (d .at - c .at))
@@ -34,3 +35,8 @@ pub record Between (c d n : Cursor) : Type 0 where
 abbrev pub Past : (c n : Cursor) → Kinded → Type 0
 Past c n (Plain k) = Unit {0}
 Past c n (Literal k d) = Between c d n
+
+-- what the scan of a whole token promises: it is by the rule m, after a first character of one byte
+pub record Begun (m : Eater TokenKind) (s : List ℕ) (from : Cursor) (r : Scanned) : Type 0 where
+  pub past : Past from (r .next) (r .kind)
+  pub ran : Ran m s from (r .next) (kindFrom 1 from (r .kind))

@@ -1,10 +1,12 @@
 // The cursor: a place in a text, as a value that each move hands back. Its place is shut in this crate: a scan holds no width and no sum.
 //
 // Nothing is asked of the text or of the place: where no character can be read, there is the end.
+ghost use Prim.Native.Nat.{_≤_};
 ghost use mathlib.Core.Path.{_≡_};
 ghost use lib.ListN.{getD, drop};
-ghost use Rattle.cursor.specs.Cursors.{rest, Seen, isOver};
+ghost use Rattle.cursor.specs.Cursors.{rest, Seen};
 ghost use Rattle.cursor.specs.Moved.{Moved};
+ghost use Rattle.cursor.specs.Counted.{Counted};
 use text::CodePoint;
 use text::Decoded;
 use token::LiteralKind;
@@ -14,7 +16,7 @@ pub struct Cursor {
     at: usize,
 }
 
-// What a peek gives: a character and the cursor past it, or the end. So a NUL is told from the end.
+// What a peek gives: a character and the cursor past it, or the end. So a NUL is not the end.
 pub enum Step {
     Got(CodePoint, Cursor),
     Over,
@@ -44,6 +46,20 @@ pub struct Ended {
     pub terminated: bool,
 }
 
+// What a character that is repeated gives: the cursor past it, and how many times it stands there.
+pub struct Repeated {
+    pub next: Cursor,
+    pub count: usize,
+}
+
+// A count as one of 000's numbers: the one place at which it becomes a u32.
+pub fn narrow(n: usize) -> u32
+    requires { ⌜ n ≤ 4294967295 ⌝ }
+    ensures { λ r. ⌜ r ≡ n ⌝ }
+{
+    n as u32
+}
+
 impl Cursor {
     // The cursor at a place of a text.
     pub fn new(place: usize) -> Cursor
@@ -59,7 +75,23 @@ impl Cursor {
         self.at
     }
 
+    // The next character and the cursor past it, or the end. ASCII is answered before anything else: most characters are.
     pub fn peek(self, text: &[u8]) -> Step
+        ensures { λ r. ⌜ Seen (now (text .entry)) self r ⌝ }
+    {
+        let at = self.at;
+        if at < text.len() {
+            let b = text[at];
+            if b < 0x80 {
+                let past = Cursor { at: at + 1 };
+                return Step::Got(b as u32, past);
+            }
+        }
+        self.peek_far(text)
+    }
+
+    // The same of any character, by the decoder.
+    fn peek_far(self, text: &[u8]) -> Step
         ensures { λ r. ⌜ Seen (now (text .entry)) self r ⌝ }
     {
         let at = self.at;
@@ -106,27 +138,30 @@ impl Cursor {
         cur
     }
 
+    // Past all characters at the cursor that are `wanted`, and how many they are.
+    pub fn eat_repeated(self, text: &[u8], wanted: CodePoint) -> Repeated
+        ensures { λ r. ⌜ Counted wanted (now (text .entry)) self r ⌝ }
+    {
+        let mut cur = self;
+        let mut count: usize = 0;
+        loop {
+            match cur.peek(text) {
+                Step::Got(c, next) => {
+                    if c != wanted {
+                        return Repeated { next: cur, count };
+                    }
+                    cur = next;
+                    count += 1;
+                }
+                Step::Over => return Repeated { next: cur, count },
+            }
+        }
+    }
+
     // The second next character; 0 where there is none.
     pub fn second(self, text: &[u8]) -> CodePoint
         ensures { λ r. ⌜ r ≡ getD (rest (now (text .entry)) self) 1 0 ⌝ }
     {
         self.bump(text).first(text)
-    }
-
-    // The third next character; 0 where there is none.
-    pub fn third(self, text: &[u8]) -> CodePoint
-        ensures { λ r. ⌜ r ≡ getD (rest (now (text .entry)) self) 2 0 ⌝ }
-    {
-        self.bump(text).second(text)
-    }
-
-    // Whether nothing is left.
-    pub fn is_eof(self, text: &[u8]) -> bool
-        ensures { λ r. ⌜ r ≡ isOver (rest (now (text .entry)) self) ⌝ }
-    {
-        match self.peek(text) {
-            Step::Got(_, _) => false,
-            Step::Over => true,
-        }
     }
 }

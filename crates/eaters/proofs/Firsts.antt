@@ -10,7 +10,7 @@ use native.Mathlib.Omega.{arith}
 use Rattle.basics.specs.Choice.{pick, and}
 use Rattle.basics.specs.Tests.{all}
 use Rattle.eaters.specs.Eat.{Got, takeWhile}
-use Rattle.eaters.specs.Scan.{after, Turn, on, off, turned, scan, run, firstWith}
+use Rattle.eaters.specs.Scan.{after, Turn, taking, breakOff, turned, scan, run, firstWith}
 use Rattle.eaters.specs.Find.{Place, at, nowhere, further, find}
 
 -- a test holds at place k, and at no place before it
@@ -88,9 +88,9 @@ firstWith-find x y n (c ∷ cs) = go (and (eqb c x) (run y n cs)) (firstWith-fin
 pub data Way (turn : ℕ → ℕ → ℕ → Turn) (rest : List ℕ) : (well : Bool) (k d : ℕ) → List ℕ → Type 0 where
   done : Way turn rest true 0 0 []
   over : {k d : ℕ} → rest ≡ [] → 0 < k + d → Way turn rest false k d []
-  broken : {d c : ℕ} {cs : List ℕ} → rest ≡ c ∷ cs → turn (suc d) c (getD cs 0 0) ≡ off → Way turn rest false 0 (suc d) []
+  broken : {d c : ℕ} {cs : List ℕ} → rest ≡ c ∷ cs → turn (suc d) c (getD cs 0 0) ≡ breakOff → Way turn rest false 0 (suc d) []
   skipped : {well : Bool} {k d c : ℕ} {t : List ℕ} → Way turn rest well k d t → Way turn rest well (suc k) d (c ∷ t)
-  turning : {well : Bool} {k d e c : ℕ} {t : List ℕ} → turn (suc d) c (getD (t ++ rest) 0 0) ≡ on k e → Way turn rest well k e t → Way turn rest well 0 (suc d) (c ∷ t)
+  turning : {well : Bool} {k d e c : ℕ} {t : List ℕ} → turn (suc d) c (getD (t ++ rest) 0 0) ≡ taking k e → Way turn rest well k e t → Way turn rest well 0 (suc d) (c ∷ t)
 
 over-scan : (turn : ℕ → ℕ → ℕ → Turn) (k d : ℕ) → 0 < k + d → scan turn k d [] ≡ record { took = 0; said = false }
 unfolding scan
@@ -121,8 +121,8 @@ WentAs turn k d cs r = Way turn (drop (r .took) cs) (r .said) k d (take (r .took
 
 by-turn : (turn : ℕ → ℕ → ℕ → Turn) (d c : ℕ) (cs : List ℕ) (u : Turn) → turn (suc d) c (getD cs 0 0) ≡ u → ((k e : ℕ) → WentAs turn k e cs (scan turn k e cs))
     → WentAs turn 0 (suc d) (c ∷ cs) (turned u (λ k e. scan turn k e cs))
-by-turn turn d c cs (on k e) q ih = turning (ap (λ (l : List ℕ). turn (suc d) c (getD l 0 0)) (take-append-drop (scan turn k e cs .took) cs) ∙ q) (ih k e)
-by-turn turn d c cs off q ih = broken refl q
+by-turn turn d c cs (taking k e) q ih = turning (ap (λ (l : List ℕ). turn (suc d) c (getD l 0 0)) (take-append-drop (scan turn k e cs .took) cs) ∙ q) (ih k e)
+by-turn turn d c cs breakOff q ih = broken refl q
 
 went : (turn : ℕ → ℕ → ℕ → Turn) (cs : List ℕ) (k d : ℕ) → WentAs turn k d cs (scan turn k d cs)
 unfolding scan

@@ -10,7 +10,7 @@ use Rattle.basics.specs.Choice.{and}
 use Rattle.basics.proofs.Choices.{and-2, by-pick}
 use Rattle.eaters.specs.Eat.{Got, Eater, give, eat, eatAny, takeWhile, while, takeMost, whileMost, _>>=_, _>>_, texted, choose}
 use Rattle.eaters.specs.Look.{ifAt, ifTwo, ifEat, begins, ifBegins}
-use Rattle.eaters.specs.Scan.{Turn, on, off, turned, scan, run, firstWith}
+use Rattle.eaters.specs.Scan.{Turn, taking, breakOff, turned, scan, run, firstWith}
 
 pub record Fits {A : Type 0} (n : ℕ) (m : Eater A) : Type 0 where
   pub fits : (cs : List ℕ) → n ≤ length cs → m cs .took ≤ length cs
@@ -95,8 +95,8 @@ fits-ifBegins {A} {x} {y} l g h =
 
 -- searches for an end
 turns : (n : ℕ) (u : Turn) (f : ℕ → ℕ → Got Bool) → ((k d : ℕ) → f k d .took ≤ n) → turned u f .took ≤ suc n
-turns n (on k d) f h = suc-le-suc (h k d)
-turns n off f h = zero-le
+turns n (taking k d) f h = suc-le-suc (h k d)
+turns n breakOff f h = zero-le
 
 scans : (t : ℕ → ℕ → ℕ → Turn) (cs : List ℕ) (k d : ℕ) → scan t k d cs .took ≤ length cs
 unfolding scan

@@ -1,4 +1,4 @@
--- A scan is an eater: a function of the characters that are left. It tells how many of them it takes, and says something.
+-- A scan is an eater: a function of the characters that are left. It takes some of them, and says something.
 -- What it takes are the first `took` characters, and what it leaves are the others.
 use Prim.Native.Nat.{ℕ, zero, suc, _+_}
 use mathlib.Core.List.{List, [], _∷_}

@@ -1,4 +1,5 @@
--- Looking ahead: nothing looks further than these words do, and nothing looks back. A character that is not there counts as 0, as in 000.
+-- Looking ahead. With frontmatter off, a rule sees at most two characters past what it takes; with frontmatter on, it looks for three dashes too, and the
+-- searches for the end of a frontmatter go through the whole rest. Nothing looks back. A character that is not there counts as 0, as in 000.
 use Prim.Native.Nat.{ℕ}
 use mathlib.Core.List.{List, [], _∷_}
 use mathlib.Core.Bool.{Bool, true, false}

@@ -1,5 +1,5 @@
 -- Searches for an end.
-use Prim.Native.Nat.{ℕ, zero, suc}
+use Prim.Native.Nat.{ℕ, zero, suc, pred}
 use mathlib.Core.List.{List, [], _∷_}
 use mathlib.Core.Bool.{Bool, true, false}
 use lib.ListN.{getD}
@@ -12,14 +12,33 @@ abbrev pub after : {A : Type 0} → Got A → Got A
 after r = record { took = suc (r .took); said = r .said }
 
 -- A scan for an end, at a depth: it ends well where the depth is 0, and badly where the text ends first or a turn breaks off.
--- A turn sees the depth, the next character and the one after it. It takes the next character and k more and goes on at depth d, or breaks off.
+-- A turn sees the depth, the next character and the one after it. It takes the next character and some more and goes on at a depth, or breaks off.
 pub data Turn : Type 0 where
-  on : (k d : ℕ) → Turn
-  off : Turn
+  taking : (more depth : ℕ) → Turn
+  breakOff : Turn
+
+-- take the character, and end well
+abbrev pub close : Turn
+close = taking 0 0
+
+-- take the character, and go on at this depth
+abbrev pub go : (depth : ℕ) → Turn
+go d = taking 0 d
+
+-- take the character and the next one, and go on at this depth
+abbrev pub skip : (depth : ℕ) → Turn
+skip d = taking 1 d
+
+-- take both, and go on one deeper, or one less deep
+abbrev pub deeper : (depth : ℕ) → Turn
+deeper d = skip (suc d)
+
+abbrev pub shallower : (depth : ℕ) → Turn
+shallower d = skip (pred d)
 
 abbrev pub turned : Turn → (ℕ → ℕ → Got Bool) → Got Bool
-turned (on k d) scan = after (scan k d)
-turned off scan = record { took = 0; said = false }
+turned (taking k d) scan = after (scan k d)
+turned breakOff scan = record { took = 0; said = false }
 
 -- with k characters still to be taken, at a depth. It says whether it ended well.
 unfoldable pub scan : (ℕ → ℕ → ℕ → Turn) → (k depth : ℕ) → Eater Bool

@@ -62,7 +62,7 @@ fn say_tokens(text: &[u8]) {
         }
         let token = tokens[i];
         let kind = token.kind;
-        io::print_decimal(STDOUT_FILENO, codes::kind_number(kind) as u64);
+        io::print_decimal(STDOUT_FILENO, kinds::kind_number(kind) as u64);
         say(b" ");
         io::print_decimal(STDOUT_FILENO, token.len as u64);
         say(b" ");

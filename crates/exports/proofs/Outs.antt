@@ -8,10 +8,10 @@ use Rattle.token.specs.declared.Guarded.{Guarded}
 use Rattle.token.specs.declared.Offset.{Offset}
 use Rattle.token.specs.Lists.{Lists}
 use Rattle.token.specs.Tokens.{records}
-use Rattle.codes.specs.Codes.{kindCode, suffixOf}
+use Rattle.kinds.specs.Codes.{kindCode, suffixOf}
 use Rattle.lexer.specs.declared.Scan.{Scan}
-use Rattle.lexer.specs.declared.ShebangAnswer.{ShebangAnswer}
-use Rattle.lexer.specs.Shebangs.{Stripped, shebangNumbers}
+use Rattle.shebang.specs.declared.ShebangAnswer.{ShebangAnswer}
+use Rattle.shebang.specs.Answers.{Stripped, shebangNumbers}
 use Rattle.plan.specs.declared.ListAnswer.{ListAnswer}
 use Rattle.plan.specs.Answers.{listNumbers}
 use Rattle.slots.specs.Answers as slots
@@ -65,9 +65,9 @@ stripped-out p q x = record { answer = λ L. out-by shebangNumbers p q (x .answe
 pub tokens-out : {limit : ℕ} {s : List ℕ} {L : Lists} {on : Bool} {before after : List ℕ} {r : Answer} {n : Numbers} {a : ListAnswer}
     → r ≡ answerOf n → n ≡ listNumbers a → Slotted limit s L on before after a → TokensOut limit s L on before after r
 tokens-out {s = s} {L = L} {on = on} {before = before} p q x =
-    record { answer = out-by listNumbers p q (x .answer); holds = x .holds ∙ ap (λ (y : ListAnswer). slots.held y (records L on s) before) (x .answer) }
+    record { answer = out-by listNumbers p q (x .answer); holds = x .holds ∙ ap (λ (y : ListAnswer). slots.slotsAfter y (records L on s) before) (x .answer) }
 
 pub key-out : {limit : ℕ} {s : List ℕ} {L : Lists} {before after : List ℕ} {r : Answer} {n : Numbers} {a : KeyAnswer}
     → r ≡ answerOf n → n ≡ keyNumbers a → Keying limit s L before after a → KeyOut limit s L before after r
 key-out {s = s} {L = L} {before = before} p q x =
-    record { answer = out-by keyNumbers p q (x .answer); holds = x .holds ∙ ap (λ (y : KeyAnswer). key.held y (keyOf L s) before) (x .answer) }
+    record { answer = out-by keyNumbers p q (x .answer); holds = x .holds ∙ ap (λ (y : KeyAnswer). key.bufferAfter y (keyOf L s) before) (x .answer) }

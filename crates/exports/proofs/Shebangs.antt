@@ -12,6 +12,7 @@ use Rattle.refusal.specs.declared.Bad.the-variants as bad
 use Rattle.refusal.specs.declared.Verdict.{Verdict}
 use Rattle.refusal.specs.declared.Verdict.the-variants as verdict
 use Rattle.refusal.specs.Numbers.{badNumbers}
+use Rattle.refusal.specs.Order.{refusedOr}
 use Rattle.text.specs.Chars.{chars}
 use Rattle.text.specs.Verdicts.{textVerdict}
 use Rattle.token.specs.declared.TokenKind.the-variants as kind
@@ -20,8 +21,8 @@ use Rattle.token.specs.Lists.{Lists}
 use Rattle.token.specs.Names.{is, '#', '!'}
 use Rattle.token.specs.Tokens.{tokens}
 use Rattle.token.specs.Shebang.{meaningful, lineBytes, afterMark, shebang}
-use Rattle.lexer.specs.declared.ShebangAnswer.the-variants.{Absent}
-use Rattle.lexer.specs.Shebangs.{shebangAt, shebangOf, shebangAnswer, shebangNumbers}
+use Rattle.shebang.specs.declared.ShebangAnswer.the-variants.{Absent, Refused}
+use Rattle.shebang.specs.Answers.{shebangAt, shebangAnswer, shebangNumbers}
 use Rattle.exports.specs.declared.Answer.{Answer}
 use Rattle.exports.specs.Shebangs.{StrippedOut}
 
@@ -49,8 +50,7 @@ refused-some bad.TooLong e = omega (arith, e)
 refused-some (bad.List l p) e = omega (arith, e)
 refused-some (bad.NotUtf8 n) e = omega (arith, e)
 
-absent-at : (v : Verdict) (p : Place) → Past p → shebangNumbers (shebangOf v (shebangAt p)) .number ≡ 0 → shebangNumbers (shebangOf v (shebangAt p)) .beside ≡ 0 → shebangOf v (shebangAt p) ≡ Absent
-unfolding shebangOf
+absent-at : (v : Verdict) (p : Place) → Past p → shebangNumbers (refusedOr Refused v (shebangAt p)) .number ≡ 0 → shebangNumbers (refusedOr Refused v (shebangAt p)) .beside ≡ 0 → refusedOr Refused v (shebangAt p) ≡ Absent
 absent-at verdict.Fine (at n) h e f = absurd (omega (arith, h, f))
 absent-at verdict.Fine nowhere h e f = refl
 absent-at (verdict.Refused x) p h e f = absurd (refused-some x e)

@@ -16,8 +16,8 @@ use Rattle.exports.specs.Answers.{answerOf}
 
 pub record TokensOut (limit : ℕ) (s : List ℕ) (L : Lists) (on : Bool) (before after : List ℕ) (r : Answer) : Type 0 where
   pub answer : r ≡ answerOf (listNumbers (listAnswer limit s L on (length before / 4)))
-  pub holds : after ≡ slots.held (listAnswer limit s L on (length before / 4)) (records L on s) before
+  pub holds : after ≡ slots.slotsAfter (listAnswer limit s L on (length before / 4)) (records L on s) before
 
 pub record KeyOut (limit : ℕ) (s : List ℕ) (L : Lists) (before after : List ℕ) (r : Answer) : Type 0 where
   pub answer : r ≡ answerOf (keyNumbers (keyAnswer limit s L (length before)))
-  pub holds : after ≡ key.held (keyAnswer limit s L (length before)) (keyOf L s) before
+  pub holds : after ≡ key.bufferAfter (keyAnswer limit s L (length before)) (keyOf L s) before

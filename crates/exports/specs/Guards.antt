@@ -4,9 +4,9 @@ use mathlib.Core.Bool.{true, false}
 use Rattle.refusal.specs.declared.Numbers.{Numbers}
 use Rattle.token.specs.declared.Guarded.{Guarded}
 use Rattle.token.specs.declared.Guarded.the-variants.{Found, NotFound}
-use Rattle.lexer.specs.declared.GuardedAnswer.{GuardedAnswer}
-use Rattle.lexer.specs.declared.GuardedAnswer.the-variants.{Given, Position, Refused}
-use Rattle.lexer.specs.Guards.{guardedNumbers}
+use Rattle.strings.specs.declared.GuardedAnswer.{GuardedAnswer}
+use Rattle.strings.specs.declared.GuardedAnswer.the-variants.{Given, Position, Refused}
+use Rattle.strings.specs.Guards.{guardedNumbers}
 use Rattle.exports.specs.declared.GuardedStrAnswer.{GuardedStrAnswer}
 
 abbrev pub noString : Numbers → (next : ℕ) → GuardedStrAnswer

@@ -8,9 +8,9 @@ use Rattle.token.specs.declared.RawStr.{RawStr}
 use Rattle.token.specs.declared.RawStr.the-variants.{Good, Bad}
 use Rattle.token.specs.declared.RawStrError.{RawStrError}
 use Rattle.token.specs.declared.RawStrError.the-variants.{InvalidStarter, NoTerminator, TooManyDelimiters}
-use Rattle.lexer.specs.declared.RawAnswer.{RawAnswer}
-use Rattle.lexer.specs.declared.RawAnswer.the-variants.{Checked, Prefix, Refused}
-use Rattle.lexer.specs.RawChecks.{rawNumbers}
+use Rattle.strings.specs.declared.RawAnswer.{RawAnswer}
+use Rattle.strings.specs.declared.RawAnswer.the-variants.{Checked, Prefix, Refused}
+use Rattle.strings.specs.RawChecks.{rawNumbers}
 use Rattle.exports.specs.declared.RawStrAnswer.{RawStrAnswer}
 
 abbrev pub rawOf : Numbers → (check bad expected found : ℕ) (has : Bool) (offset : ℕ) → RawStrAnswer

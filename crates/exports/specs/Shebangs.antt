@@ -3,7 +3,7 @@ use Prim.Native.Nat.{ℕ}
 use mathlib.Core.Path.{_≡_}
 use mathlib.Core.List.{List}
 use Rattle.token.specs.Lists.{Lists}
-use Rattle.lexer.specs.Shebangs.{shebangAnswer, shebangNumbers}
+use Rattle.shebang.specs.Answers.{shebangAnswer, shebangNumbers}
 use Rattle.exports.specs.declared.Answer.{Answer}
 use Rattle.exports.specs.Answers.{answerOf}
 

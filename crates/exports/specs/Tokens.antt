@@ -1,7 +1,7 @@
 -- The one-token call's answer as numbers: the kind is its code, which loses nothing beside the start of the suffix.
 use mathlib.Core.Bool.{false}
 use Rattle.refusal.specs.declared.Numbers.{Numbers}
-use Rattle.codes.specs.Codes.{kindCode, suffixOf}
+use Rattle.kinds.specs.Codes.{kindCode, suffixOf}
 use Rattle.lexer.specs.declared.Scan.{Scan}
 use Rattle.lexer.specs.declared.OneToken.{OneToken}
 use Rattle.lexer.specs.declared.OneToken.the-variants.{Given, Position, Refused}

@@ -8,19 +8,19 @@ ghost use Rattle.classes.specs.Answers.{answerNumbers, idStartAnswer, idContinu
 ghost use Rattle.refusal.specs.Numbers.{verdictNumbers};
 ghost use Rattle.token.specs.Lists.{lent};
 ghost use Rattle.lexer.specs.Answers.{tokenVerdict, oneToken};
-ghost use Rattle.lexer.specs.RawChecks.{rawAnswer};
-ghost use Rattle.lexer.specs.Guards.{guardedAnswer};
+ghost use Rattle.strings.specs.RawChecks.{rawAnswer};
+ghost use Rattle.strings.specs.Guards.{guardedAnswer};
 ghost use Rattle.exports.specs.Answers.{answerOf};
 ghost use Rattle.exports.specs.Tokens.{noToken, givenOut, tokenOut};
 ghost use Rattle.exports.specs.RawStrs.{rawOf, noEndOf, errorOf, checkOf, rawOut};
 ghost use Rattle.exports.specs.Guards.{noString, foundOf, guardedOut};
 ghost use Rattle.exports.specs.Shebangs.{StrippedOut};
 ghost use Rattle.exports.specs.Buffers.{TokensOut, KeyOut};
-use lexer::GuardedAnswer;
 use lexer::OneToken;
-use lexer::RawAnswer;
 use lexer::Scan;
 use refusal::Numbers;
+use strings::GuardedAnswer;
+use strings::RawAnswer;
 use token::Guarded;
 use token::Offset;
 use token::RawStr;
@@ -115,8 +115,8 @@ fn given_out(n: Numbers, scan: Scan) -> TokenAnswer
         number: n.number,
         beside: n.beside,
         second: n.second,
-        kind: codes::kind_code(kind),
-        suffix_start: codes::suffix_of(kind),
+        kind: kinds::kind_code(kind),
+        suffix_start: kinds::suffix_of(kind),
         len: token.len,
         start: token.start,
         next: scan.next,
@@ -195,7 +195,7 @@ fn check_of(n: Numbers, check: RawStr) -> RawStrAnswer
 fn raw_out(answer: RawAnswer) -> RawStrAnswer
     ensures { λ r. ⌜ r ≡ rawOut answer ⌝ }
 {
-    let n = lexer::raw_numbers(answer);
+    let n = strings::raw_numbers(answer);
     match answer {
         RawAnswer::Checked(check) => check_of(n, check),
         RawAnswer::Prefix => raw_of(n, 0, 0, 0, 0, false, 0),
@@ -241,7 +241,7 @@ fn found_of(n: Numbers, found: Guarded, next: usize) -> GuardedStrAnswer
 fn guarded_out(answer: GuardedAnswer) -> GuardedStrAnswer
     ensures { λ r. ⌜ r ≡ guardedOut answer ⌝ }
 {
-    let n = lexer::guarded_numbers(answer);
+    let n = strings::guarded_numbers(answer);
     match answer {
         GuardedAnswer::Given(given) => {
             let found = given.found;
@@ -324,16 +324,16 @@ pub extern "C" fn lovemudarn_is_ident(text: &[u8], starts: &[u32], continues: &[
 pub extern "C" fn lovemudarn_strip_shebang(text: &[u8]) -> Answer
     ensures { λ r. ⌜ StrippedOut (now (text .entry)) r ⌝ }
 {
-    let answer = lexer::strip_shebang(text);
-    answer_of(lexer::shebang_numbers(answer))
+    let answer = shebang::strip_shebang(text);
+    answer_of(shebang::shebang_numbers(answer))
 }
 
-// The raw check of a literal with a prefix of so many bytes: 1, 2, 8, or 0 with what it says.
+// The raw check of a literal with a prefix of `prefix` bytes: 1, 2, 8, or 0 with what it says.
 #[no_mangle]
 pub extern "C" fn lovemudarn_validate_raw_str(text: &[u8], prefix: usize) -> RawStrAnswer
     ensures { λ r. ⌜ r ≡ rawOut (rawAnswer (now (text .entry)) prefix) ⌝ }
 {
-    raw_out(lexer::validate_raw_str(text, prefix))
+    raw_out(strings::validate_raw_str(text, prefix))
 }
 
 // The guarded string at a position: 1, 3, 2, 4, or 0 with what is found.
@@ -346,10 +346,10 @@ pub extern "C" fn lovemudarn_guarded(
 ) -> GuardedStrAnswer
     ensures { λ r. do ⌜ r ≡ guardedOut (guardedAnswer (← ⟦ranges::MAX_PAIRS⟧ .entry) (now (text .entry)) (now (starts .entry)) (now (continues .entry)) at) ⌝ }
 {
-    guarded_out(lexer::guarded_double_quoted_string(text, starts, continues, at))
+    guarded_out(strings::guarded_double_quoted_string(text, starts, continues, at))
 }
 
-// The classes take any number; one that is no Unicode scalar value is in no class.
+// The classes take any number; one that is not a Unicode scalar value is in no class.
 #[no_mangle]
 pub extern "C" fn lovemudarn_is_whitespace(c: u32) -> bool
     ensures { λ r. ⌜ r ≡ isWhitespace c ⌝ }

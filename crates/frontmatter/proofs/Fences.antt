@@ -14,32 +14,20 @@ use Rattle.eaters.specs.Look.{begins}
 use Rattle.token.specs.Names.{is, 'newline', '-'}
 use Rattle.token.specs.Frontmatter.{dashes, first}
 use Rattle.cursor.specs.declared.Cursor.{Cursor}
+use Rattle.cursor.specs.declared.Repeated.{Repeated}
 use Rattle.cursor.specs.declared.Step.{Step}
 use Rattle.cursor.specs.declared.Step.the-variants.{Got, Over}
 use Rattle.cursor.specs.Cursors.{rest, Seen}
+use Rattle.cursor.specs.Counted.{Counted}
 use Rattle.cursor.specs.Moved.{over, arrive, left-of, no-more}
 use Rattle.cursor.proofs.Moves.{char-at, end-at}
-use Rattle.cursor.proofs.Counts.{Counting, AllCounted, counting-off, counting-over}
-use Rattle.frontmatter.specs.declared.Dashes.{Dashes}
 use Rattle.frontmatter.specs.declared.Sought.the-variants.{At, Nowhere}
 use Rattle.frontmatter.specs.Searches.{SoughtAt}
-use Rattle.frontmatter.specs.Fences.{Dashed}
 use Rattle.frontmatter.proofs.Seeks.{shift, shift-none, shift-more, shift-further, Seeking, seeking, seek-past, seek-on, seek-at, seek-gone, first-here, first-on, first-none}
 
--- THE DASHES AT A CURSOR
+-- how many dashes are at the front
 abbrev run : List ℕ → ℕ
 run cs = length (takeWhile (is '-') cs)
-
--- all of them (Counts of the cursor)
-module _ {s : List ℕ} {a b : Cursor} {n : ℕ} {r : Step} (i : Counting '-' s a b n) (h : Seen s b r) where
-  all : AllCounted '-' s a b n → Dashed s a (record { next = b; count = n })
-  all k = record { moved = k .moved; count = k .count }
-
-  pub counted-off : {x : ℕ} {d : Cursor} → r ≡ Got x d → (x ≡ 0x2D → ⊥) → Dashed s a (record { next = b; count = n })
-  counted-off e q = all (counting-off i h e q)
-
-  pub counted-over : r ≡ Over → Dashed s a (record { next = b; count = n })
-  counted-over e = all (counting-over i h e)
 
 -- THE FENCE: n dashes are there exactly where n or more are counted
 many : (n : ℕ) (cs : List ℕ) → n ≤ run cs → begins (dashes n) cs ≡ true
@@ -78,7 +66,7 @@ module _ (n c : ℕ) (cs : List ℕ) where
 fence-none : (n : ℕ) → fence n [] ≡ nowhere
 fence-none n = first-none ('newline' ∷ dashes n) refl
 
--- dashes are no newlines: the search goes over them
+-- dashes are not newlines: the search goes over them
 over-dashes : (n : ℕ) (cs : List ℕ) → fence n cs ≡ shift (run cs) (fence n (drop (run cs) cs))
 over-dashes n [] = shift-none (fence n [])
 over-dashes n (c ∷ cs) = go (eqb c 0x2D) refl (over-dashes n cs)
@@ -109,7 +97,7 @@ module _ {n : ℕ} {s : List ℕ} {a b : Cursor} (i : Fencing n s a b) {r : Step
     pub fencing-other : (c ≡ 0x0A → ⊥) → Fencing n s a d
     fencing-other q = on-by (fence-other n c (rest s d) q)
 
-    module _ (q : c ≡ 0x0A) {k : Dashes} (g : Dashed s d k) where
+    module _ (q : c ≡ 0x0A) {k : Repeated} (g : Counted '-' s d k) where
       pub fencing-found : n ≤ k .count → SoughtAt s a (further (fence n (rest s a))) (At d)
       fencing-found l =
           let z : rest s b ≡ c ∷ rest s d = char-at e h .chars in

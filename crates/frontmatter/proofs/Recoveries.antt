@@ -11,7 +11,7 @@ use Rattle.classes.specs.Whitespace.{isHorizontalWhitespace}
 use Rattle.eaters.specs.Find.{Place, at, nowhere, further, orElse}
 use Rattle.eaters.specs.Look.{begins}
 use Rattle.eaters.proofs.Fits.{begins-long}
-use Rattle.token.specs.Frontmatter.{dashes, first, lastSearch, recovery, useLine, docLine, attributeLine}
+use Rattle.token.specs.Frontmatter.{dashes, first, stillBlank, lastSearch, recovery, useLine, docLine, attributeLine}
 use Rattle.cursor.specs.declared.Cursor.{Cursor}
 use Rattle.cursor.specs.declared.Step.{Step}
 use Rattle.cursor.specs.declared.Step.the-variants.{Got, Over}
@@ -21,7 +21,6 @@ use Rattle.cursor.proofs.Moves.{char-at, end-at}
 use Rattle.frontmatter.specs.declared.Sought.{Sought}
 use Rattle.frontmatter.specs.declared.Sought.the-variants.{At, Nowhere}
 use Rattle.frontmatter.specs.Searches.{SoughtAt, there, gone}
-use Rattle.frontmatter.specs.Fences.{stillBlank}
 use Rattle.frontmatter.proofs.Seeks.{shift, shift-none, shift-more, Seeking, seeking, seek-past, seek-on, seek-here, seek-gone}
 use Rattle.frontmatter.proofs.Fences.{fence}
 

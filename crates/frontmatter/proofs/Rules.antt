@@ -23,8 +23,10 @@ use Rattle.token.specs.declared.TokenKind.the-variants as kind
 use Rattle.token.specs.Names.{is, 'newline', '-'}
 use Rattle.token.specs.Lists.{Lists, lent, starting}
 use Rattle.token.specs.Comments.{inLine}
-use Rattle.token.specs.Frontmatter.{dashes, lineRest, recovery, lineAt, closed, body, infostring, frontmatter}
+use Rattle.token.specs.Frontmatter.{dashes, lineRest, recovery, lineAt, closed, body, inInfostring, infostring, frontmatter}
 use Rattle.cursor.specs.declared.Cursor.{Cursor}
+use Rattle.cursor.specs.declared.Repeated.{Repeated}
+use Rattle.cursor.specs.Counted.{Counted}
 use Rattle.cursor.specs.declared.Step.{Step}
 use Rattle.cursor.specs.declared.Step.the-variants.{Over}
 use Rattle.cursor.specs.Cursors.{rest, Seen}
@@ -34,11 +36,9 @@ use Rattle.cursor.proofs.Moves.{end-at}
 use Rattle.cursor.proofs.Steps.{rest-short}
 use Rattle.cursor.proofs.Runs.{ran-give, ran-bind, ran-then, ran-yes, ran-no, ran-take}
 use Rattle.cursor.proofs.Loops.{ran-while}
-use Rattle.frontmatter.specs.declared.Dashes.{Dashes}
 use Rattle.frontmatter.specs.declared.Sought.{Sought}
 use Rattle.frontmatter.specs.declared.Sought.the-variants.{At, Nowhere}
 use Rattle.frontmatter.specs.Searches.{SoughtAt, there, gone}
-use Rattle.frontmatter.specs.Fences.{Dashed, inInfostring}
 use Rattle.frontmatter.proofs.Fences.{fence}
 
 -- PAST EVERYTHING
@@ -144,7 +144,7 @@ ended v n = ifAt (is 'newline') (told v n false) (told v n true)
 abbrev opened : Lists → Bool → List ℕ → Eater TokenKind
 opened L v more = while isHorizontalWhitespace >> (infostring L >> (while isHorizontalWhitespace >> ended v (suc (length more))))
 
-module _ {s : List ℕ} {a : Cursor} {h : Dashes} (g : Dashed s a h) where
+module _ {s : List ℕ} {a : Cursor} {h : Repeated} (g : Counted '-' s a h) where
   -- their number is in range, with the first dash or without it
   pub more-fits : (j : ℕ) → length s * 1 < 2 ^ 63 → leb j 1 ≡ true → Fits w64 (h .count + j)
   unfolding while

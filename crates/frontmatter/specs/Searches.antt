@@ -9,7 +9,7 @@ use Rattle.cursor.specs.Moved.{Moved}
 use Rattle.frontmatter.specs.declared.Sought.{Sought}
 use Rattle.frontmatter.specs.declared.Sought.the-variants.{At, Nowhere}
 
--- the cursor is so many characters on, or the place is nowhere
+-- the cursor is k characters on, or the place is nowhere
 pub data SoughtAt (s : List ℕ) (from : Cursor) : Place → Sought → Type 0 where
   there : {k : ℕ} {c : Cursor} → Moved s from c (drop k (rest s from)) → SoughtAt s from (at k) (At c)
   gone : SoughtAt s from nowhere Nowhere

@@ -13,27 +13,19 @@ ghost use Rattle.eaters.specs.Find.{further};
 ghost use Rattle.token.specs.Names.{'newline'};
 ghost use Rattle.token.specs.Lists.{lent};
 ghost use Rattle.token.specs.Frontmatter;
-ghost use Rattle.token.specs.Frontmatter.{dashes, first, lineAt, infostring};
+ghost use Rattle.token.specs.Frontmatter.{dashes, first, stillBlank, lineAt, inInfostring, infostring};
 ghost use Rattle.cursor.specs.Cursors.{rest};
 ghost use Rattle.cursor.specs.Moved.{Moved};
 ghost use Rattle.cursor.specs.Ran.{left, Ran};
 ghost use Rattle.frontmatter.specs.Searches.{SoughtAt};
-ghost use Rattle.frontmatter.specs.Fences.{Dashed, stillBlank, inInfostring};
 use cursor::Cursor;
 use cursor::Lexed;
 use cursor::Step;
 use text::CodePoint;
 use token::TokenKind;
 
-// A byte as a code point.
-fn wide(x: u8) -> CodePoint
-    ensures { λ r. ⌜ r ≡ x ⌝ }
-{
-    x as CodePoint
-}
-
 // Whether these characters, all of ASCII, are at the cursor: each byte of the pattern is a character.
-pub fn starts_with(text: &[u8], from: Cursor, pattern: &[u8]) -> bool
+fn starts_with(text: &[u8], from: Cursor, pattern: &[u8]) -> bool
     ensures { λ r. ⌜ r ≡ begins (now (pattern .entry)) (rest (now (text .entry)) from) ⌝ }
 {
     let mut cur = from;
@@ -42,7 +34,7 @@ pub fn starts_with(text: &[u8], from: Cursor, pattern: &[u8]) -> bool
         let Step::Got(c, next) = cur.peek(text) else {
             return false;
         };
-        let wanted = wide(pattern[i]);
+        let wanted = text::wide(pattern[i]);
         if c != wanted {
             return false;
         }
@@ -74,32 +66,6 @@ fn find(text: &[u8], from: Cursor, pattern: &[u8]) -> Sought
     }
 }
 
-// The cursor past some dashes, and how many they are.
-struct Dashes {
-    next: Cursor,
-    count: usize,
-}
-
-// The dashes at a cursor.
-fn eat_dashes(text: &[u8], from: Cursor) -> Dashes
-    ensures { λ r. ⌜ Dashed (now (text .entry)) from r ⌝ }
-{
-    let mut cur = from;
-    let mut count: usize = 0;
-    loop {
-        match cur.peek(text) {
-            Step::Got(c, next) => {
-                if c != 0x2D {
-                    return Dashes { next: cur, count };
-                }
-                cur = next;
-                count += 1;
-            }
-            Step::Over => return Dashes { next: cur, count },
-        }
-    }
-}
-
 // Past the first newline with `count` dashes after it. Dashes that were counted are not read again: no newline is among them.
 fn find_fence(text: &[u8], from: Cursor, count: usize) -> Sought
     ensures { λ r. ⌜ SoughtAt (now (text .entry)) from (further (first ('newline' ∷ dashes count) (rest (now (text .entry)) from))) r ⌝ }
@@ -110,7 +76,7 @@ fn find_fence(text: &[u8], from: Cursor, count: usize) -> Sought
             return Sought::Nowhere;
         };
         if c == 0x0A {
-            let fence = eat_dashes(text, next);
+            let fence = next.eat_repeated(text, 0x2D);
             if count <= fence.count {
                 return Sought::At(next);
             }
@@ -294,7 +260,7 @@ pub fn frontmatter(
     requires { ⌜ Good (now starts) × Good (now continues) ⌝ }
     ensures { λ r. ⌜ Ran (Frontmatter.frontmatter (lent (now (starts .entry)) (now (continues .entry)) []) «invalid_before») (now (text .entry)) from (r .next) (r .kind) ⌝ }
 {
-    let fence = eat_dashes(text, from);
+    let fence = from.eat_repeated(text, 0x2D);
     let more = fence.count;
     let open = fence.next;
     let name = eat_blanks(text, open);

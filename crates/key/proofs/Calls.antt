@@ -11,11 +11,10 @@ use Rattle.eaters.specs.Find.{Place, at, nowhere}
 use Rattle.refusal.specs.declared.Bad.{Bad}
 use Rattle.refusal.specs.declared.Verdict.{Verdict}
 use Rattle.refusal.specs.declared.Verdict.the-variants as verdict
-use Rattle.text.specs.Chars.{WellFormed}
-use Rattle.ranges.specs.Rules.{Good}
-use Rattle.token.specs.Lists.{lent}
+use Rattle.refusal.specs.Order.{refusedOr}
+use Rattle.token.specs.Lists.{Lists}
 use Rattle.lexer.specs.Answers.{tokenVerdict}
-use Rattle.lexer.proofs.Checks.{step-ready, text-well}
+use Rattle.lexer.proofs.Checks.{fine-checked}
 use Rattle.canon.specs.Keyable.{brokenAt}
 use Rattle.canon.specs.Key.{keyOf}
 use Rattle.key.specs.declared.KeyAnswer.{KeyAnswer}
@@ -23,7 +22,7 @@ use Rattle.key.specs.declared.KeyAnswer.the-variants.{Keyed, Broken, Roo
 use Rattle.key.specs.declared.Need.{Need}
 use Rattle.key.specs.declared.Need.the-variants.{Bytes, Mending}
 use Rattle.key.specs.Needs.{needFor, needOf, Writing, Written}
-use Rattle.key.specs.Answers.{roomed, unbroken, checked, keyAnswer, Keying, keyNumbers}
+use Rattle.key.specs.Answers.{roomed, unbroken, keyAnswer, Keying, keyNumbers}
 
 -- BY NUMBER, at a case
 pub numbers-at : {x y : KeyAnswer} → x ≡ y → keyNumbers y ≡ keyNumbers x
@@ -50,42 +49,36 @@ bytes-needed : (p : Place) (n m : ℕ) → needFor p n ≡ Bytes m → n ≡ m
 bytes-needed (at start) n m e = absurd (true≢false (sym (ap isBytes e)))
 bytes-needed nowhere n m e = ap bytesIn e
 
--- what the verdict lets through
-pub measure-ready : (limit : ℕ) (s a b n : List ℕ) {v : Verdict} → v ≡ tokenVerdict limit s (lent a b n) → v ≡ verdict.Fine → WellFormed s × ((length s ≤ 4294967295) × (Good a × Good b × Good n))
-measure-ready limit s a b n e k = (text-well limit s a b n e k, step-ready limit s a b n e k)
-
 -- THE CASES
-module _ (limit : ℕ) (s a b n before : List ℕ) {v : Verdict} (e : v ≡ tokenVerdict limit s (lent a b n)) where
-  pub refused-in : {bad : Bad} → v ≡ verdict.Refused bad → Keying limit s (lent a b n) before before (Refused bad)
-  refused-in k = record { answer = ap (λ (u : Verdict). checked u (unbroken (brokenAt (lent a b n) s) (roomed (length (keyOf (lent a b n) s)) (length before)))) (sym k ∙ e); holds = refl }
+module _ (limit : ℕ) (s : List ℕ) (L : Lists) (before : List ℕ) {v : Verdict} (e : v ≡ tokenVerdict limit s L) where
+  pub refused-in : {bad : Bad} → v ≡ verdict.Refused bad → Keying limit s L before before (Refused bad)
+  refused-in k = record { answer = ap (λ (u : Verdict). refusedOr Refused u (unbroken (brokenAt L s) (roomed (length (keyOf L s)) (length before)))) (sym k ∙ e); holds = refl }
 
   module _ (k : v ≡ verdict.Fine) where
-    module _ {need : Need} (d : need ≡ needOf (lent a b n) s) where
-      fine : answered need (length before) ≡ keyAnswer limit s (lent a b n) (length before)
+    module _ {need : Need} (d : need ≡ needOf L s) where
+      fine : answered need (length before) ≡ keyAnswer limit s L (length before)
       fine =
-          ap (λ (x : Need). answered x (length before)) d ∙ by-need (brokenAt (lent a b n) s) (length (keyOf (lent a b n) s)) (length before)
-          ∙ ap (λ (u : Verdict). checked u (unbroken (brokenAt (lent a b n) s) (roomed (length (keyOf (lent a b n) s)) (length before)))) (sym k ∙ e)
+          ap (λ (x : Need). answered x (length before)) d ∙ by-need (brokenAt L s) (length (keyOf L s)) (length before)
+          ∙ ap (λ (u : Verdict). refusedOr Refused u (unbroken (brokenAt L s) (roomed (length (keyOf L s)) (length before)))) (sym k ∙ e)
 
-      pub broken-in : {start : ℕ} → need ≡ Mending start → Keying limit s (lent a b n) before before (Broken start)
+      pub broken-in : {start : ℕ} → need ≡ Mending start → Keying limit s L before before (Broken start)
       broken-in q = record { answer = sym (ap (λ (x : Need). answered x (length before)) q) ∙ fine; holds = refl }
 
       module _ {m : ℕ} (q : need ≡ Bytes m) where
-        as-long : length (keyOf (lent a b n) s) ≡ m
-        as-long = bytes-needed (brokenAt (lent a b n) s) (length (keyOf (lent a b n) s)) m (sym d ∙ q)
+        as-long : length (keyOf L s) ≡ m
+        as-long = bytes-needed (brokenAt L s) (length (keyOf L s)) m (sym d ∙ q)
 
-        roomy : roomed m (length before) ≡ keyAnswer limit s (lent a b n) (length before)
+        roomy : roomed m (length before) ≡ keyAnswer limit s L (length before)
         roomy = sym (ap (λ (x : Need). answered x (length before)) q) ∙ fine
 
-        pub room-in : length before < m → Keying limit s (lent a b n) before before (Room m)
+        pub room-in : length before < m → Keying limit s L before before (Room m)
         room-in l = record { answer = sym (ap (λ (t : Bool). pick t (Keyed m) (Room m)) (lt-leb m (length before) l)) ∙ roomy; holds = refl }
 
-        pub write-ready : m ≤ length before → Writing (lent a b n) s before
-        write-ready l =
-            let r = step-ready limit s a b n e k in
-            record { well = text-well limit s a b n e k; fits = r .0; starts = r .1 .0; continues = r .1 .1; emoji = r .1 .2; room = omega (arith, as-long) }
+        pub write-ready : m ≤ length before → Writing L s before
+        write-ready l = record { checked = fine-checked limit s L e k; room = omega (arith, as-long) }
 
-        pub keyed-in : {after : List ℕ} → m ≤ length before → Written (lent a b n) s before after → Keying limit s (lent a b n) before after (Keyed m)
+        pub keyed-in : {after : List ℕ} → m ≤ length before → Written L s before after → Keying limit s L before after (Keyed m)
         keyed-in l w = record {
           answer = sym (ap (λ (t : Bool). pick t (Keyed m) (Room m)) (le-leb m (length before) l)) ∙ roomy;
-          holds = w ∙ ap (λ (j : ℕ). keyOf (lent a b n) s ++ drop j before) as-long;
+          holds = w ∙ ap (λ (j : ℕ). keyOf L s ++ drop j before) as-long;
         }

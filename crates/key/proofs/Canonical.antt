@@ -1,24 +1,17 @@
 -- THE KEY IS CANONICAL, said of the call: what it wrote for two texts, what it writes for a key, and how long a key is. `take n after` are the bytes
 -- that a call wrote which answered `Keyed n`.
 use Prim.Native.Nat.{ℕ, _≤_}
-use mathlib.Core.Path.{_≡_, refl, sym, ap, subst, _∙_}
+use mathlib.Core.Path.{_≡_, sym, ap, subst, _∙_}
 use mathlib.Core.Logic.{_↔_}
 use mathlib.Core.List.{List}
 use lib.ListN.{length, take, drop}
 use lib.Seq.{take-at}
-use borrow.Author.Tests.{le-leb, le-ltb, eq-eqb}
 use native.Mathlib.Omega.{arith}
 use Rattle.eaters.specs.Find.{nowhere}
-use Rattle.refusal.specs.declared.Bad.the-variants as bad
 use Rattle.refusal.specs.declared.Verdict.the-variants as verdict
-use Rattle.refusal.specs.Order.{listsInOrder}
-use Rattle.refusal.proofs.Orders.{first-1, first-2}
-use Rattle.text.specs.Chars.{chars, size, WellFormed}
-use Rattle.text.specs.Verdicts.{tooLong, utf8Verdict}
-use Rattle.ranges.specs.Rules.{listVerdict}
+use Rattle.text.specs.Chars.{WellFormed}
 use Rattle.token.specs.Lists.{Lists}
 use Rattle.lexer.specs.Answers.{tokenVerdict}
-use Rattle.lexer.proofs.Checks.{step-ready}
 use Rattle.canon.specs.Keyable.{brokenAt}
 use Rattle.canon.specs.Meaning.{meaning}
 use Rattle.canon.specs.Key.{keyOf}
@@ -27,11 +20,13 @@ use Rattle.canon.proofs.Short.{key-short}
 use Rattle.canon.proofs.Canon.{key-well, key-again, again-keyable, canonical}
 use Rattle.key.specs.declared.KeyAnswer.{KeyAnswer}
 use Rattle.key.specs.declared.KeyAnswer.the-variants.{Keyed}
-use Rattle.key.proofs.Fits.{Done, done}
 use Rattle.key.specs.Answers.{Keying}
+use Rattle.key.specs.Valid.{Valid}
+use Rattle.key.proofs.Fits.{Done, done}
+use Rattle.key.proofs.Valids.{fine-valid, valid-fine, keyed-answer}
 
 fair-of : (limit : ℕ) (s : List ℕ) (L : Lists) → tokenVerdict limit s L ≡ verdict.Fine → Fair L
-fair-of limit s L e = step-ready limit s (L .starts) (L .continues) (L .emoji) (sym e) refl .1 .0
+fair-of limit s L e = fine-valid limit s L e .starts .rules
 
 -- ONE CALL that answered `Keyed n`
 module _ {limit : ℕ} {s : List ℕ} {L : Lists} {before after : List ℕ} {n : ℕ} (k : Keying limit s L before after (Keyed n)) where
@@ -60,11 +55,9 @@ same-keys {limit} {s} {t} {L} j k =
 
 -- a text that the checks let through, no longer and well-formed: they let it through as well
 fine-again : (limit : ℕ) (s t : List ℕ) (L : Lists) → tokenVerdict limit s L ≡ verdict.Fine → length t ≤ length s → WellFormed t → tokenVerdict limit t L ≡ verdict.Fine
-unfolding tokenVerdict tooLong utf8Verdict
 fine-again limit s t L e l w =
-    let f : length s ≤ 4294967295 = step-ready limit s (L .starts) (L .continues) (L .emoji) (sym e) refl .0 in
-    let g : listsInOrder (listVerdict limit 0 (L .starts)) (listVerdict limit 1 (L .continues)) (listVerdict limit 2 (L .emoji)) ≡ verdict.Fine = first-1 _ (utf8Verdict s) (first-2 (tooLong s) _ e) in
-    rw (le-ltb 4294967295 (length t) (omega arith), g, eq-eqb (size (chars t)) (length t) w)
+    let v : Valid limit s L = fine-valid limit s L e in
+    valid-fine limit t L (record { fits = omega arith; well = w; starts = v .starts; continues = v .continues; emoji = v .emoji })
 
 -- A KEY KEYED AGAIN, with room for it, is accepted and comes out as it is
 module _ {limit : ℕ} {s : List ℕ} {L : Lists} {before after before′ after′ : List ℕ} {n : ℕ} {r : KeyAnswer} (j : Keying limit s L before after (Keyed n)) (k : Keying limit (take n after) L before′ after′ r) (h : n ≤ length before′) where
@@ -79,7 +72,7 @@ module _ {limit : ℕ} {s : List ℕ} {L : Lists} {before after before′ after�
       let f : tokenVerdict limit (take n after) L ≡ verdict.Fine = fine-again limit s (take n after) L (told j .fine) (omega (arith, as-long, wrote-short j)) (wrote-well j) in
       let b : brokenAt L (take n after) ≡ nowhere = ap (brokenAt L) (wrote-key j) ∙ again-keyable L (fair-of limit s L (told j .fine)) s (told j .keyable) in
       let l : length (keyOf L (take n after)) ≡ n = ap length same-key ∙ as-long in
-      k .answer ∙ rw (f, b, l, le-leb n (length before′) h)
+      k .answer ∙ keyed-answer limit (take n after) L f b (omega arith) ∙ ap Keyed l
 
   pub again-same : take n after′ ≡ take n after
   again-same = wrote-key (subst (λ (x : KeyAnswer). Keying limit (take n after) L before′ after′ x) again-keyed k) ∙ same-key

@@ -1,4 +1,4 @@
--- What an answer of success tells: of the text, the lists and the room; and a key that was written fits into the buffer.
+-- What an answer of success says: of the text, the lists and the room; and a key that was written fits into the buffer.
 use Prim.Native.Nat.{ℕ, _≤_}
 use mathlib.Core.Path.{_≡_, refl, sym, ap, _∙_}
 use mathlib.Core.Bool.{Bool, true, false, true≢false}
@@ -12,15 +12,16 @@ use Rattle.basics.specs.Choice.{pick}
 use Rattle.eaters.specs.Find.{Place, at, nowhere}
 use Rattle.refusal.specs.declared.Verdict.{Verdict}
 use Rattle.refusal.specs.declared.Verdict.the-variants as verdict
+use Rattle.refusal.specs.Order.{refusedOr}
 use Rattle.token.specs.Lists.{Lists}
 use Rattle.lexer.specs.Answers.{tokenVerdict}
 use Rattle.canon.specs.Keyable.{brokenAt, Keyable}
 use Rattle.canon.specs.Key.{keyOf}
 use Rattle.key.specs.declared.KeyAnswer.{KeyAnswer}
 use Rattle.key.specs.declared.KeyAnswer.the-variants.{Keyed, Broken, Room, Refused}
-use Rattle.key.specs.Answers.{unbroken, checked, keyAnswer, Keying}
+use Rattle.key.specs.Answers.{unbroken, keyAnswer, Keying}
 
--- what an answer of success tells of the text, the lists and the room
+-- what an answer of success says of the text, the lists and the room
 pub record Done (limit : ℕ) (s : List ℕ) (L : Lists) (room n : ℕ) : Type 0 where
   pub fine : tokenVerdict limit s L ≡ verdict.Fine
   pub keyable : Keyable L s
@@ -41,7 +42,7 @@ bytesIn (Refused bad) = 0
 
 module _ {limit : ℕ} {s : List ℕ} {L : Lists} {room n : ℕ} where
   by-cases : (v : Verdict) (p : Place) (t : Bool) → tokenVerdict limit s L ≡ v → brokenAt L s ≡ p → leb (length (keyOf L s)) room ≡ t
-      → Keyed n ≡ checked v (unbroken p (pick t (Keyed (length (keyOf L s))) (Room (length (keyOf L s))))) → Done limit s L room n
+      → Keyed n ≡ refusedOr Refused v (unbroken p (pick t (Keyed (length (keyOf L s))) (Room (length (keyOf L s))))) → Done limit s L room n
   by-cases verdict.Fine nowhere true f p q e =
       let k : n ≡ length (keyOf L s) = ap bytesIn e in
       record { fine = f; keyable = p; long = k; fits = omega (arith, k, leb-true (length (keyOf L s)) room q) }

@@ -13,6 +13,7 @@ use Rattle.token.specs.Names.{'newline'}
 use Rattle.token.specs.Trivia.{isTrivia}
 use Rattle.lexer.specs.declared.Scan.{Scan}
 use Rattle.lexer.specs.Scans.{scanAt}
+use Rattle.lexer.specs.Steps.{beforeOf, nextOf}
 use Rattle.lexer.proofs.Walks.{begins-on}
 use Rattle.puts.specs.Put.{laid, Put}
 use Rattle.puts.proofs.Puts.{put-take, put-drop, put-length, kept-on}
@@ -77,25 +78,28 @@ module _ {L : Lists} {s before out : List ℕ} {n at : ℕ} {gap : Bool} (m : La
       let k : n ≡ length (keyOf L s) = sym (length-take-le n out (m .within)) ∙ ap length t in
       sym (take-append-drop n out) ∙ ap (λ (l : List ℕ). l ++ drop n out) t ∙ ap (λ (l : List ℕ). keyOf L s ++ l) (m .kept) ∙ ap (λ (j : ℕ). keyOf L s ++ drop j before) k
 
-  module _ {x : Scan} {t : Bool} (ready : Writing L s before) (l : at < length s) (e : x ≡ scanAt L s at false) (q : t ≡ isTrivia (x .token .kind)) where
+  module _ {o x : Scan} {t : Bool} (ready : Writing L s before) (l : at < length s) (h : o ≡ beforeOf at false) (y : x ≡ nextOf L s o) (q : t ≡ isTrivia (x .token .kind)) where
+    e : x ≡ scanAt L s at false
+    e = y ∙ ap (nextOf L s) h
+
     pub laid-less : length (chars (drop (x .next) s)) < length (chars (drop at s))
-    laid-less = less-left L s at (ready .well) (m .edged) l e
+    laid-less = less-left L s at (ready .checked .well) (m .edged) l e
 
     pub laid-fits : Fitting s at (x .next) t gap out n
     laid-fits =
         let k : n + length (keyFrom L s gap at) ≡ length (keyOf L s) = omega (arith, ap length (m .key), length-append (take n out) (keyFrom L s gap at), length-take-le n out (m .within)) in
         record {
-          ordered = omega (arith, ends-there L s at (ready .well) (m .edged) l e);
-          inside = ends-inside L s at (ready .well) (m .edged) l e;
-          room = rw q (omega (arith, k, piece-here L s at (ready .well) (m .edged) l e gap, ready .room, m .same));
+          ordered = omega (arith, ends-there L s at (ready .checked .well) (m .edged) l e);
+          inside = ends-inside L s at (ready .checked .well) (m .edged) l e;
+          room = rw q (omega (arith, k, piece-here L s at (ready .checked .well) (m .edged) l e gap, ready .room, m .same));
         }
 
     pub laid-on : {p : List ℕ} {r : ℕ} → Put (piece t gap (take (x .next - at) (drop at s))) out n p r → Laying L s before p r (x .next) t
     laid-on {p} {r} u =
         let b : List ℕ = piece t gap (take (x .next - at) (drop at s)) in
-        let k : keyFrom L s gap at ≡ b ++ keyFrom L s t (x .next) = key-step L s at (ready .well) (m .edged) l e gap ∙ sym (ap (λ (o : Bool). piece o gap (take (x .next - at) (drop at s)) ++ keyFrom L s o (x .next)) q) in
+        let k : keyFrom L s gap at ≡ b ++ keyFrom L s t (x .next) = key-step L s at (ready .checked .well) (m .edged) l e gap ∙ sym (ap (λ (o : Bool). piece o gap (take (x .next - at) (drop at s)) ++ keyFrom L s o (x .next)) q) in
         record {
-          edged = next-edged L s at (ready .well) (m .edged) l e;
+          edged = next-edged L s at (ready .checked .well) (m .edged) l e;
           key = ap (λ (y : List ℕ). y ++ keyFrom L s t (x .next)) (put-take u) ∙ append-assoc (take n out) b (keyFrom L s t (x .next)) ∙ sym (ap (λ (y : List ℕ). take n out ++ y) k) ∙ m .key;
           kept = put-drop u ∙ kept-on out before n r (m .kept) (omega (arith, u .next));
           same = put-length u ∙ m .same;

@@ -12,9 +12,11 @@ use Rattle.text.specs.Position.{onBoundary}
 use Rattle.token.specs.Lists.{Lists}
 use Rattle.token.specs.Trivia.{isTrivia}
 use Rattle.lexer.specs.declared.Scan.{Scan}
+use Rattle.lexer.specs.Checked.{Checked}
 use Rattle.lexer.specs.Scans.{scanAt, recordsFrom}
+use Rattle.lexer.specs.Steps.{beforeOf, nextOf}
 use Rattle.lexer.proofs.Walks.{begins-on}
-use Rattle.canon.specs.Broken.{isBroken}
+use Rattle.token.specs.Broken.{isBroken}
 use Rattle.canon.specs.Keyable.{firstBroken, brokenAt}
 use Rattle.canon.specs.Key.{keyOf}
 use Rattle.canon.proofs.Short.{key-short}
@@ -54,7 +56,13 @@ module _ {L : Lists} {s : List ℕ} {n at : ℕ} {gap : Bool} (m : Measured L s 
       let k : n ≡ length (keyOf L s) = omega (arith, m .total, ap length (key-past L s gap at h)) in
       ap Bytes k ∙ ap (λ (p : find.Place). needFor p (length (keyOf L s))) b
 
-  module _ {x : Scan} (w : WellFormed s) (l : at < length s) (e : x ≡ scanAt L s at false) where
+  module _ {o x : Scan} (ready : Checked s L) (l : at < length s) (h : o ≡ beforeOf at false) (y : x ≡ nextOf L s o) where
+    w : WellFormed s
+    w = ready .well
+
+    e : x ≡ scanAt L s at false
+    e = y ∙ ap (nextOf L s) h
+
     -- a broken token
     pub broken-here : {b : Bool} → b ≡ isBroken (x .token .kind) → b ≡ true → Mending at ≡ needOf L s
     broken-here q k =
@@ -73,8 +81,8 @@ module _ {L : Lists} {s : List ℕ} {n at : ℕ} {gap : Bool} (m : Measured L s 
       onward : (n + p) + length (keyFrom L s (isTrivia (x .token .kind)) (x .next)) ≡ length (keyOf L s)
       onward = omega (arith, m .total, long, piece-here L s at w (m .edged) l e gap)
 
-      pub measure-fits : length s ≤ 4294967295 → n + p < 18446744073709551616
-      measure-fits h = omega (arith, onward, key-short L s)
+      pub measure-fits : n + p < 18446744073709551616
+      measure-fits = omega (arith, ready .fits, onward, key-short L s)
 
       pub measured-on : {b : Bool} → b ≡ isBroken (x .token .kind) → b ≡ false → Measured L s (n + p) (x .next) t
       measured-on f k = record {

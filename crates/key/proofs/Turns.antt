@@ -19,9 +19,11 @@ use Rattle.token.specs.Trivia.{isTrivia}
 use Rattle.token.proofs.Cover.{off-stays, size-append}
 use Rattle.lexer.specs.declared.Scan.{Scan}
 use Rattle.lexer.specs.Scans.{scanAt, recordsFrom}
-use Rattle.lexer.proofs.Records.{step-records, next-boundary}
-use Rattle.lexer.proofs.Walks.{char-there, none-past, records-past, fewer}
-use Rattle.canon.specs.Broken.{isBroken}
+use Rattle.lexer.specs.Steps.{beforeOf}
+use Rattle.lexer.proofs.Records.{step-records}
+use Rattle.lexer.proofs.Walks as walks
+use Rattle.lexer.proofs.Walks.{char-there, records-end, begins-there, fewer}
+use Rattle.token.specs.Broken.{isBroken}
 use Rattle.canon.specs.Keyable.{firstBroken}
 use Rattle.canon.specs.Meaning as meaning
 use Rattle.canon.specs.Meaning.{Item, gap, meant, gapBefore, itemsOf}
@@ -65,10 +67,10 @@ keyFrom L s g at = written (left g (itemsOf s (recordsFrom L s at false)))
 -- past the end there is nothing
 pub key-past : (L : Lists) (s : List ℕ) (g : Bool) (at : ℕ) → length s ≤ at → keyFrom L s g at ≡ []
 key-past L s g at h =
-    ap (λ (ts : List Token). written (left g (itemsOf s ts))) (records-past L s at false (none-past s at h)) ∙ ap written (left-none g)
+    ap (λ (ts : List Token). written (left g (itemsOf s ts))) (records-end L s (beforeOf at false) h) ∙ ap written (left-none g)
 
 pub broken-past : (L : Lists) (s : List ℕ) (at : ℕ) → length s ≤ at → firstBroken (recordsFrom L s at false) ≡ find.nowhere
-broken-past L s at h = ap firstBroken (records-past L s at false (none-past s at h))
+broken-past L s at h = ap firstBroken (records-end L s (beforeOf at false) h)
 
 -- A STEP at a boundary before the end
 module _ (L : Lists) (s : List ℕ) (at : ℕ) (w : WellFormed s) (b : onBoundary s at ≡ true) (l : at < length s) where
@@ -84,12 +86,10 @@ module _ (L : Lists) (s : List ℕ) (at : ℕ) (w : WellFormed s) (b : onBoundar
     records-step = subst (λ (y : Scan). recordsFrom L s at false ≡ y .token ∷ recordsFrom L s (y .next) false) (sym e) stepped
 
     starts-here : x .token .start ≡ at
-    unfolding scanAt
-    starts-here = ap (λ (y : Scan). y .token .start) e
+    starts-here = begins-there L s (beforeOf at false) e
 
     pub ends-there : x .next ≡ at + x .token .len
-    unfolding scanAt
-    ends-there = subst (λ (y : Scan). y .next ≡ at + y .token .len) (sym e) refl
+    ends-there = walks.ends-there L s (beforeOf at false) e
 
     -- the token's bytes are the text's from here to the next position
     own-bytes : meaning.bytesOf s (x .token) ≡ take (x .next - at) (drop at s)
@@ -106,10 +106,13 @@ module _ (L : Lists) (s : List ℕ) (at : ℕ) (w : WellFormed s) (b : onBoundar
     pub broken-step : firstBroken (recordsFrom L s at false) ≡ pick (isBroken (x .token .kind)) (find.at at) (firstBroken (recordsFrom L s (x .next) false))
     broken-step = ap firstBroken records-step ∙ ap (λ (k : ℕ). pick (isBroken (x .token .kind)) (find.at k) (firstBroken (recordsFrom L s (x .next) false))) starts-here
 
+    pub next-edged : onBoundary s (x .next) ≡ true
+    next-edged = walks.next-edged L s (beforeOf at false) e b
+
     -- it ends in the text
     pub ends-inside : x .next ≤ length s
     ends-inside =
-        let p = boundary-parts s (x .next) (ap (λ (y : Scan). onBoundary s (y .next)) e ∙ next-boundary L s at false b) in
+        let p = boundary-parts s (x .next) next-edged in
         omega (arith, p .bytes, ap size (p .joined), size-append (p .before) (chars (drop (x .next) s)), size-chars s)
 
     -- as long as its record says
@@ -122,8 +125,5 @@ module _ (L : Lists) (s : List ℕ) (at : ℕ) (w : WellFormed s) (b : onBoundar
         ap length (key-step g) ∙ length-append (piece t g (take (x .next - at) (drop at s))) (keyFrom L s t (x .next))
         ∙ ap (λ (k : ℕ). k + length (keyFrom L s t (x .next))) (piece-long t g (take (x .next - at) (drop at s)) ∙ ap (pieceBytes t g) own-long)
 
-    pub next-edged : onBoundary s (x .next) ≡ true
-    next-edged = ap (λ (y : Scan). onBoundary s (y .next)) e ∙ next-boundary L s at false b
-
     pub less-left : length (chars (drop (x .next) s)) < length (chars (drop at s))
-    less-left = subst (λ (y : Scan). length (chars (drop (y .next) s)) < length (chars (drop at s))) (sym e) (fewer L s at false w b l)
+    less-left = fewer L s (beforeOf at false) e (char-there s at w b l)

@@ -8,9 +8,8 @@ use lib.ListN.{length, drop}
 use Rattle.basics.specs.Choice.{pick}
 use Rattle.eaters.specs.Find.{Place, at, nowhere}
 use Rattle.refusal.specs.declared.Numbers.{Numbers}
-use Rattle.refusal.specs.declared.Verdict.{Verdict}
-use Rattle.refusal.specs.declared.Verdict.the-variants as verdict
 use Rattle.refusal.specs.Numbers.{numbers, badNumbers}
+use Rattle.refusal.specs.Order.{refusedOr}
 use Rattle.token.specs.Lists.{Lists}
 use Rattle.lexer.specs.Answers.{tokenVerdict}
 use Rattle.canon.specs.Keyable.{brokenAt}
@@ -27,25 +26,21 @@ abbrev pub unbroken : Place → KeyAnswer → KeyAnswer
 unbroken (at start) answer = Broken start
 unbroken nowhere answer = answer
 
-abbrev pub checked : Verdict → KeyAnswer → KeyAnswer
-checked verdict.Fine answer = answer
-checked (verdict.Refused bad) answer = Refused bad
-
 -- THE ANSWER: 1, 3, 2 as the one-token call has them, then 6, then 7
 abbrev pub keyAnswer : (limit : ℕ) (s : List ℕ) → Lists → (room : ℕ) → KeyAnswer
-keyAnswer limit s L room = checked (tokenVerdict limit s L) (unbroken (brokenAt L s) (roomed (length (keyOf L s)) room))
+keyAnswer limit s L room = refusedOr Refused (tokenVerdict limit s L) (unbroken (brokenAt L s) (roomed (length (keyOf L s)) room))
 
 -- THE CONTENTS: on success the key, and past it what was there; a refusal changes nothing
-abbrev pub held : KeyAnswer → (key before : List ℕ) → List ℕ
-held (Keyed n) key before = key ++ drop n before
-held (Broken start) key before = before
-held (Room n) key before = before
-held (Refused bad) key before = before
+abbrev pub bufferAfter : KeyAnswer → (key before : List ℕ) → List ℕ
+bufferAfter (Keyed n) key before = key ++ drop n before
+bufferAfter (Broken start) key before = before
+bufferAfter (Room n) key before = before
+bufferAfter (Refused bad) key before = before
 
 -- THE PROMISE of the key call: the answer r, and the buffer from before to after
 pub record Keying (limit : ℕ) (s : List ℕ) (L : Lists) (before after : List ℕ) (r : KeyAnswer) : Type 0 where
   pub answer : r ≡ keyAnswer limit s L (length before)
-  pub holds : after ≡ held r (keyOf L s) before
+  pub holds : after ≡ bufferAfter r (keyOf L s) before
 
 -- by number: done is 0, with the key's bytes; 6, with the start of the first broken token; 7, with the bytes needed
 abbrev pub keyNumbers : KeyAnswer → Numbers

@@ -1,3 +1,4 @@
 pub mod Pieces
 pub mod Needs
 pub mod Answers
+pub mod Valid

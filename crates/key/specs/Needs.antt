@@ -4,9 +4,8 @@ use mathlib.Core.Path.{_≡_}
 use mathlib.Core.List.{List, _++_}
 use lib.ListN.{length, drop}
 use Rattle.eaters.specs.Find.{Place, at, nowhere}
-use Rattle.text.specs.Chars.{WellFormed}
-use Rattle.ranges.specs.Rules.{Good}
 use Rattle.token.specs.Lists.{Lists}
+use Rattle.lexer.specs.Checked.{Checked}
 use Rattle.canon.specs.Keyable.{brokenAt}
 use Rattle.canon.specs.Key.{keyOf}
 use Rattle.key.specs.declared.Need.{Need}
@@ -22,11 +21,7 @@ needOf L s = needFor (brokenAt L s) (length (keyOf L s))
 
 -- the text and the lists were checked, and out has room for the key
 pub record Writing (L : Lists) (s out : List ℕ) : Type 0 where
-  pub well : WellFormed s
-  pub fits : length s ≤ 4294967295
-  pub starts : Good (L .starts)
-  pub continues : Good (L .continues)
-  pub emoji : Good (L .emoji)
+  pub checked : Checked s L
   pub room : length (keyOf L s) ≤ length out
 
 -- the key is in the first bytes, and the rest is as it was

@@ -1,22 +1,17 @@
 // The key of a text (document 01, "The key"), put into a lent buffer. Every refusal is found, and the key is measured, before the first byte is
 // written; both passes read each byte of the text a fixed number of times.
 ghost use mathlib.Core.Path.{_≡_};
-ghost use Prim.Native.Nat.{_≤_, _+_, _-_};
-ghost use lib.ListN.{length, take, drop};
-ghost use Rattle.text.specs.Chars.{WellFormed};
-ghost use Rattle.ranges.specs.Rules.{Good};
+ghost use Prim.Native.Nat.{_-_};
+ghost use lib.ListN.{take, drop};
 ghost use Rattle.token.specs.Lists.{lent};
+ghost use Rattle.lexer.specs.Checked.{Checked};
 ghost use Rattle.puts.specs.Put.{Put};
-ghost use Rattle.canon.specs.Broken.{uncounted, brokenLiteral, isBroken};
 ghost use Rattle.key.specs.Pieces.{pieceBytes, piece, Fitting};
 ghost use Rattle.key.specs.Needs.{needOf, Writing, Written};
 ghost use Rattle.key.specs.Answers.{keyNumbers, Keying};
 use refusal::Bad;
 use refusal::Numbers;
 use refusal::Verdict;
-use token::HashCount;
-use token::LiteralKind;
-use token::TokenKind;
 
 // What the key call says: done, with the key's bytes; a broken token (6), with the start of the first; fewer bytes than the key has (7), with the
 // bytes that it has; or a refusal (1, 3, 2).
@@ -51,51 +46,6 @@ pub fn key_numbers(answer: KeyAnswer) -> Numbers
     }
 }
 
-// Whether a raw string has no hash count.
-fn is_uncounted(hashes: HashCount) -> bool
-    ensures { λ r. ⌜ r ≡ uncounted hashes ⌝ }
-{
-    match hashes {
-        HashCount::Of(_) => false,
-        HashCount::NoCount => true,
-    }
-}
-
-// Whether a literal is broken: it does not end, or it has no hash count.
-fn is_broken_literal(kind: LiteralKind) -> bool
-    ensures { λ r. ⌜ r ≡ brokenLiteral kind ⌝ }
-{
-    match kind {
-        LiteralKind::Int { .. } => false,
-        LiteralKind::Float { .. } => false,
-        LiteralKind::Char { terminated } => !terminated,
-        LiteralKind::Byte { terminated } => !terminated,
-        LiteralKind::Str { terminated } => !terminated,
-        LiteralKind::ByteStr { terminated } => !terminated,
-        LiteralKind::CStr { terminated } => !terminated,
-        LiteralKind::RawStr { n_hashes } => is_uncounted(n_hashes),
-        LiteralKind::RawByteStr { n_hashes } => is_uncounted(n_hashes),
-        LiteralKind::RawCStr { n_hashes } => is_uncounted(n_hashes),
-    }
-}
-
-// Whether a token is broken: a broken literal, or a block comment that does not end.
-fn is_broken(kind: TokenKind) -> bool
-    ensures { λ r. ⌜ r ≡ isBroken kind ⌝ }
-{
-    match kind {
-        TokenKind::BlockComment {
-            doc_style: _,
-            terminated,
-        } => !terminated,
-        TokenKind::Literal {
-            kind: literal,
-            suffix_start: _,
-        } => is_broken_literal(literal),
-        _ => false,
-    }
-}
-
 // The bytes of a token in the key: a meaningful one has its own; the first of a run of trivia has one newline, and the others have none.
 fn piece_bytes(trivia: bool, gap: bool, len: usize) -> usize
     ensures { λ r. ⌜ r ≡ pieceBytes trivia gap len ⌝ }
@@ -109,33 +59,34 @@ fn piece_bytes(trivia: bool, gap: bool, len: usize) -> usize
     len
 }
 
-// What a key needs: so many bytes, or that its first broken token is mended.
-pub enum Need {
+// What a key needs: n bytes, or that its first broken token is mended.
+enum Need {
     Bytes(usize),
     Mending(usize),
 }
 
 // The bytes of the key of a text that was checked, or its first broken token.
 fn measure(text: &[u8], starts: &[u32], continues: &[u32], emoji: &[u32]) -> Need
-    requires { ⌜ WellFormed (now text) × ((length (now text) ≤ 4294967295) × (Good (now starts) × Good (now continues) × Good (now emoji))) ⌝ }
+    requires { ⌜ Checked (now text) (lent (now starts) (now continues) (now emoji)) ⌝ }
     ensures { λ r. ⌜ r ≡ needOf (lent (now (starts .entry)) (now (continues .entry)) (now (emoji .entry))) (now (text .entry)) ⌝ }
 {
-    let mut n: usize = 0;
+    let mut used: usize = 0;
     let mut at: usize = 0;
     let mut gap = false;
     while at < text.len() {
-        let scan = lexer::step(text, at, false, starts, continues, emoji);
+        let here = lexer::before(at, false);
+        let scan = lexer::step(text, starts, continues, emoji, here);
         let token = scan.token;
         let kind = token.kind;
-        if is_broken(kind) {
+        if kinds::is_broken(kind) {
             return Need::Mending(at);
         }
-        let trivia = trivia::is_trivia(kind);
-        n = n + piece_bytes(trivia, gap, token.len as usize);
+        let trivia = kinds::is_trivia(kind);
+        used = used + piece_bytes(trivia, gap, token.len as usize);
         gap = trivia;
         at = scan.next;
     }
-    Need::Bytes(n)
+    Need::Bytes(used)
 }
 
 // Puts the bytes of the token from `at` to `next` into the key, and hands back the place past them.
@@ -166,16 +117,17 @@ fn write(text: &[u8], starts: &[u32], continues: &[u32], emoji: &[u32], out: &mu
     ensures { λ r. ⌜ Written (lent (now (starts .entry)) (now (continues .entry)) (now (emoji .entry))) (now (text .entry)) (now (out .entry)) (now (out .exit)) ⌝ }
 {
     let mut used: usize = 0;
-    let mut from: usize = 0;
-    let mut blank = false;
-    while from < text.len() {
-        let scan = lexer::step(text, from, false, starts, continues, emoji);
+    let mut at: usize = 0;
+    let mut gap = false;
+    while at < text.len() {
+        let here = lexer::before(at, false);
+        let scan = lexer::step(text, starts, continues, emoji, here);
         let token = scan.token;
         let kind = token.kind;
-        let trivia = trivia::is_trivia(kind);
-        used = put_piece(text, from, scan.next, trivia, blank, out, used);
-        blank = trivia;
-        from = scan.next;
+        let trivia = kinds::is_trivia(kind);
+        used = put_piece(text, at, scan.next, trivia, gap, out, used);
+        gap = trivia;
+        at = scan.next;
     }
 }
 

@@ -1,6 +1,5 @@
 mod Scanning
 pub mod Checks
-mod Others
 mod Numbering
 pub mod Records
 pub mod Answers

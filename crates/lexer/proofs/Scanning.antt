@@ -3,35 +3,33 @@ use Prim.Native.Nat.{ℕ, _+_, _-_, _≤_}
 use mathlib.Core.Path.{_≡_, sym, ap, subst, _∙_}
 use mathlib.Core.Bool.{Bool}
 use mathlib.Core.List.{List, [], _∷_}
-use lib.ListN.{length, take, drop, length-drop}
+use lib.ListN.{length, take, drop}
 use mir.Val.{Fits}
 use mir.Syntax.{w64}
 use native.Mathlib.Omega.{arith}
 use Rattle.basics.specs.Choice.{and}
 use Rattle.text.specs.Chars.{chars, width, size}
-use Rattle.text.proofs.Texts.{size-chars, width-some}
+use Rattle.text.proofs.Texts.{width-some}
 use Rattle.token.specs.declared.LiteralKind.{LiteralKind}
 use Rattle.token.specs.declared.TokenKind.{TokenKind}
 use Rattle.token.specs.declared.TokenKind.the-variants as kind
 use Rattle.token.specs.Lists.{Lists}
-use Rattle.token.specs.Advance.{stays, Told, advance}
+use Rattle.token.specs.Advance.{stays, Told, advance, decided}
 use Rattle.token.proofs.Takes.{fits-token}
-use Rattle.token.proofs.Cover.{size-append}
 use Rattle.cursor.specs.declared.Cursor.{Cursor}
 use Rattle.cursor.specs.declared.Kinded.{Kinded}
 use Rattle.cursor.specs.declared.Kinded.the-variants.{Plain, Literal}
 use Rattle.cursor.specs.declared.Step.{Step}
 use Rattle.cursor.specs.declared.Step.the-variants.{Got, Over}
 use Rattle.cursor.specs.declared.Scanned.{Scanned}
-use Rattle.cursor.specs.Cursors.{rest, rest-is, Seen}
-use Rattle.cursor.specs.Moved.{passed}
-use Rattle.cursor.specs.Ran.{left, kindFrom, Past}
+use Rattle.cursor.specs.Cursors.{rest, Seen}
+use Rattle.cursor.specs.Ran.{kindFrom, Past, Begun}
+use Rattle.cursor.proofs.Steps.{rest-at}
 use Rattle.cursor.proofs.Moves.{char-at, end-at}
+use Rattle.cursor.proofs.Bytes.{char-within, moved-within}
 use Rattle.cursor.proofs.Runs.{ran-bytes}
-use Rattle.prefixed.specs.Begins.{Begun}
-use Rattle.advance.specs.Arms.{decided}
 use Rattle.lexer.specs.declared.Scan.{Scan}
-use Rattle.lexer.specs.Scans.{bytesOf, scanAt, Narrow}
+use Rattle.lexer.specs.Scans.{tokenSize, scanAt, Narrow}
 
 -- THE KIND
 module _ {k : Kinded} (b : Cursor) where
@@ -66,15 +64,12 @@ same-scan : {at l₁ l₂ n₁ n₂ : ℕ} {k₁ k₂ : TokenKind} {t₁ t₂ : 
 same-scan p q r s = rw (p, q, r, s)
 
 -- THE END
-rest-at : (s : List ℕ) (a : Cursor) {at : ℕ} → a .at ≡ at → rest s a ≡ chars (drop at s)
-rest-at s a e = rest-is s a ∙ ap (λ (n : ℕ). chars (drop n s)) e
-
 module _ (L : Lists) (s : List ℕ) {at : ℕ} (on : Bool) {a : Cursor} {r : Step} (e : a .at ≡ at) (h : Seen s a r) where
   pub at-end : r ≡ Over → record { token = record { kind = kind.Eof; len = 0; start = at }; next = at; on = on } ≡ scanAt L s at on
-  unfolding scanAt bytesOf advance
+  unfolding scanAt tokenSize advance
   at-end q =
       let n : chars (drop at s) ≡ [] = sym (rest-at s a e) ∙ end-at q h in
-      let z : bytesOf L on (chars (drop at s)) ≡ 0 = ap (bytesOf L on) n in
+      let z : tokenSize L on (chars (drop at s)) ≡ 0 = ap (tokenSize L on) n in
       same-scan (sym (ap (λ (cs : List ℕ). advance L on cs .said .kind) n)) (sym z) (omega (arith, z)) (sym (ap (λ (cs : List ℕ). advance L on cs .said .on) n))
 
   -- A CHARACTER, and what the decision over it gives
@@ -85,20 +80,16 @@ module _ (L : Lists) (s : List ℕ) {at : ℕ} (on : Bool) {a : Cursor} {r : Ste
     past : x .next .at ≡ b .at + size (take (decided L on c (rest s b) .took) (rest s b))
     past = ran-bytes (decided L on c) (g .ran) (fits-token L on c .fits (rest s b) (omega arith))
 
-    long : bytesOf L on (chars (drop at s)) ≡ width c + size (take (decided L on c (rest s b) .took) (rest s b))
-    unfolding bytesOf advance
-    long = ap (bytesOf L on) begins
+    long : tokenSize L on (chars (drop at s)) ≡ width c + size (take (decided L on c (rest s b) .took) (rest s b))
+    unfolding tokenSize advance
+    long = ap (tokenSize L on) begins
 
-    pub ends : x .next .at ≡ at + bytesOf L on (chars (drop at s))
+    pub ends : x .next .at ≡ at + tokenSize L on (chars (drop at s))
     ends = omega (arith, past, long, char-at q h .bytes, e)
 
     -- no further than the text
     pub within : x .next .at ≤ length s
-    within =
-        let p = passed (g .ran .moved) in
-        let z : size (p .text) ≤ size (rest s b) = omega (arith, sym (ap size (p .whole)), size-append (p .text) (left (decided L on c) (rest s b))) in
-        let y : size (chars (drop at s)) ≡ width c + size (rest s b) = ap size begins in
-        omega (arith, p .bytes, z, y, char-at q h .bytes, e, size-chars (drop at s), length-drop at s, width-some c)
+    within = omega (arith, char-within q h, moved-within (g .ran .moved))
 
     pub kind-narrow : length s ≤ 4294967295 → Narrow b (x .kind)
     kind-narrow l = narrowed (x .kind) b (x .next) (g .past) (omega (arith, char-at q h .bytes, width-some c)) (omega (arith, within))
@@ -119,5 +110,5 @@ module _ (L : Lists) (s : List ℕ) {at : ℕ} (on : Bool) {a : Cursor} {r : Ste
       scanned {l} {k} {t} f d o =
           let v : k ≡ advance L on (chars (drop at s)) .said .kind = f ∙ g .ran .said ∙ sym (ap (λ (y : Told). y .kind) said) in
           let w : t ≡ advance L on (chars (drop at s)) .said .on = o ∙ ap (λ (j : TokenKind). and on (stays j)) (f ∙ g .ran .said) ∙ sym (ap (λ (y : Told). y .on) said) in
-          let u : n ≡ at + bytesOf L on (chars (drop at s)) = m ∙ ends in
+          let u : n ≡ at + tokenSize L on (chars (drop at s)) = m ∙ ends in
           same-scan v (d ∙ omega arith) u w

@@ -1,5 +1,5 @@
--- A walk over the tokens of a well-formed text, position by position: a character stands at each boundary before the end, and none past it.
-use Prim.Native.Nat.{ℕ, _≤_, _<_}
+-- A walk over the tokens of a well-formed text, scan by scan: a character stands at each boundary before the end, and none past it.
+use Prim.Native.Nat.{ℕ, _+_, _≤_, _<_}
 use mathlib.Core.Path.{_≡_, refl, sym, ap, _∙_}
 use mathlib.Core.Bool.{Bool, true}
 use mathlib.Core.List.{List, [], _∷_}
@@ -13,8 +13,10 @@ use Rattle.token.specs.Lists.{Lists}
 use Rattle.token.specs.Advance.{advance}
 use Rattle.token.specs.Tokens.{tokens, tokensAfter, placed}
 use Rattle.token.proofs.Cover.{advance-some, size-append}
-use Rattle.lexer.specs.Scans.{scanAt, recordsFrom}
-use Rattle.lexer.proofs.Records.{past-token}
+use Rattle.lexer.specs.declared.Scan.{Scan}
+use Rattle.lexer.specs.Scans.{scanAt}
+use Rattle.lexer.specs.Steps.{nextOf, recordsPast}
+use Rattle.lexer.proofs.Records.{past-token, step-records, next-boundary}
 
 -- a text begins on a boundary
 pub begins-on : (cs : List ℕ) → edge cs 0 ≡ true
@@ -41,19 +43,40 @@ no-size : (cs : List ℕ) → size cs ≤ 0 → cs ≡ []
 no-size [] h = refl
 no-size (c ∷ cs) h = absurd (omega (arith, width-some c))
 
-pub none-past : (s : List ℕ) (at : ℕ) → length s ≤ at → chars (drop at s) ≡ []
+none-past : (s : List ℕ) (at : ℕ) → length s ≤ at → chars (drop at s) ≡ []
 none-past s at l = no-size (chars (drop at s)) (omega (arith, size-chars (drop at s), length-drop at s))
 
 tokens-none : (L : Lists) (on : Bool) → tokens L on [] ≡ []
 unfolding tokensAfter
 tokens-none L on = refl
 
-pub records-past : (L : Lists) (s : List ℕ) (at : ℕ) (on : Bool) → chars (drop at s) ≡ [] → recordsFrom L s at on ≡ []
-records-past L s at on e = ap (λ (cs : List ℕ). placed at (tokens L on cs)) e ∙ ap (placed at) (tokens-none L on)
+pub records-none : (L : Lists) (s : List ℕ) (c : Scan) → chars (drop (c .next) s) ≡ [] → recordsPast L s c ≡ []
+records-none L s c e = ap (λ (cs : List ℕ). placed (c .next) (tokens L (c .on) cs)) e ∙ ap (placed (c .next)) (tokens-none L (c .on))
 
--- a step leaves fewer characters
-pub fewer : (L : Lists) (s : List ℕ) (at : ℕ) (on : Bool) → WellFormed s → onBoundary s at ≡ true → at < length s → length (chars (drop (scanAt L s at on .next) s)) < length (chars (drop at s))
-fewer L s at on w b l =
-    let t = char-there s at w b l in
-    let q : 1 ≤ advance L on (chars (drop at s)) .took = rw (t .2) (advance-some L on (t .0) (t .1)) in
-    omega (arith, q, ap length (t .2), ap length (past-token L s at on), length-drop (advance L on (chars (drop at s)) .took) (chars (drop at s)))
+pub records-end : (L : Lists) (s : List ℕ) (c : Scan) → length s ≤ c .next → recordsPast L s c ≡ []
+records-end L s c h = records-none L s c (none-past s (c .next) h)
+
+-- A STEP OF A WALK, in the facts of the code
+module _ (L : Lists) (s : List ℕ) (c : Scan) {x : Scan} (e : x ≡ nextOf L s c) where
+  pub begins-there : x .token .start ≡ c .next
+  unfolding scanAt
+  begins-there = ap (λ (y : Scan). y .token .start) e
+
+  pub ends-there : x .next ≡ c .next + x .token .len
+  unfolding scanAt
+  ends-there = rw e
+
+  pub next-edged : onBoundary s (c .next) ≡ true → onBoundary s (x .next) ≡ true
+  next-edged b = rw e (next-boundary L s (c .next) (c .on) b)
+
+  -- at a character
+  module _ (t : Char (chars (drop (c .next) s))) where
+    -- the token, and then those past it
+    pub next-records : recordsPast L s c ≡ x .token ∷ recordsPast L s x
+    next-records = rw e (step-records L s (c .next) (c .on) (t .0) (t .1) (t .2))
+
+    -- fewer characters are left
+    pub fewer : length (chars (drop (x .next) s)) < length (chars (drop (c .next) s))
+    fewer =
+        let q : 1 ≤ advance L (c .on) (chars (drop (c .next) s)) .took = rw (t .2) (advance-some L (c .on) (t .0) (t .1)) in
+        rw e (omega (arith, q, ap length (t .2), ap length (past-token L s (c .next) (c .on)), length-drop (advance L (c .on) (chars (drop (c .next) s)) .took) (chars (drop (c .next) s))))

@@ -5,9 +5,8 @@ use mathlib.Core.Bool.{Bool}
 use Rattle.basics.specs.Choice.{pick}
 use Rattle.refusal.specs.declared.Numbers.{Numbers}
 use Rattle.refusal.specs.declared.Verdict.{Verdict}
-use Rattle.refusal.specs.declared.Verdict.the-variants as verdict
 use Rattle.refusal.specs.Numbers.{numbers, badNumbers}
-use Rattle.refusal.specs.Order.{inOrder, listsInOrder}
+use Rattle.refusal.specs.Order.{inOrder, listsInOrder, refusedOr}
 use Rattle.text.specs.Position.{onBoundary}
 use Rattle.text.specs.Verdicts.{tooLong, utf8Verdict}
 use Rattle.ranges.specs.Rules.{listVerdict}
@@ -24,15 +23,12 @@ tokenVerdict limit s L =
     (utf8Verdict s)
 
 -- then 4: the position is past the end or inside a character; else the token there
-unfoldable pub placed : Lists → (s : List ℕ) (at : ℕ) (on : Bool) → OneToken
-placed L s at on = pick (onBoundary s at) (Given (scanAt L s at on)) (Position at)
+unfoldable pub givenAt : Lists → (s : List ℕ) (at : ℕ) (on : Bool) → OneToken
+givenAt L s at on = pick (onBoundary s at) (Given (scanAt L s at on)) (Position at)
 
-unfoldable pub oneOf : Verdict → OneToken → OneToken
-oneOf verdict.Fine answer = answer
-oneOf (verdict.Refused bad) answer = Refused bad
-
+-- THE ANSWER
 abbrev pub oneToken : (limit : ℕ) (s : List ℕ) → Lists → (at : ℕ) (on : Bool) → OneToken
-oneToken limit s L at on = oneOf (tokenVerdict limit s L) (placed L s at on)
+oneToken limit s L at on = refusedOr Refused (tokenVerdict limit s L) (givenAt L s at on)
 
 -- by number: done is 0, with the position past the token, and 1 where frontmatter is on there
 abbrev pub tokenNumbers : OneToken → Numbers

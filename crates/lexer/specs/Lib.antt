@@ -1,5 +1,4 @@
 pub mod Scans
+pub mod Checked
+pub mod Steps
 pub mod Answers
-pub mod Shebangs
-pub mod RawChecks
-pub mod Guards

@@ -13,17 +13,17 @@ use Rattle.cursor.specs.declared.Kinded.{Kinded}
 use Rattle.cursor.specs.declared.Kinded.the-variants.{Plain, Literal}
 use Rattle.lexer.specs.declared.Scan.{Scan}
 
--- the bytes of the token at the front of the characters
-unfoldable pub bytesOf : Lists → (on : Bool) → List ℕ → ℕ
-bytesOf L on cs = size (take (advance L on cs .took) cs)
+-- how many bytes the token at the front of the characters has
+unfoldable pub tokenSize : Lists → (on : Bool) → List ℕ → ℕ
+tokenSize L on cs = size (take (advance L on cs .took) cs)
 
 -- the token at a position, the position past it, and whether frontmatter is on there
 unfoldable pub scanAt : Lists → (s : List ℕ) (at : ℕ) (on : Bool) → Scan
 scanAt L s at on =
     let cs = chars (drop at s) in
     record {
-      token = record { kind = advance L on cs .said .kind; len = bytesOf L on cs; start = at };
-      next = at + bytesOf L on cs;
+      token = record { kind = advance L on cs .said .kind; len = tokenSize L on cs; start = at };
+      next = at + tokenSize L on cs;
       on = advance L on cs .said .on;
     }
 

@@ -1,23 +1,27 @@
 -- The lines of the tokens of a text, with empty lists and frontmatter off (document 01, the small program): a line a token, and none for Eof.
 use Prim.Native.Nat.{ℕ, _+_, _-_}
 use mathlib.Core.Bool.{false}
-use mathlib.Core.List.{List, [], _∷_, _++_}
+use mathlib.Core.List.{List, [], _∷_}
 use lib.Dec.{ltb}
 use lib.ListN.{length}
 use Rattle.basics.specs.Choice.{pick}
 use Rattle.token.specs.declared.Token.{Token}
 use Rattle.token.specs.Lists.{none}
 use Rattle.lexer.specs.Scans.{recordsFrom}
+use Rattle.puts.specs.Joined.{joined}
 use Rattle.token_line.specs.Line.{line}
 
 -- the tokens of a text from a position on
 abbrev pub tokensFrom : (s : List ℕ) (at : ℕ) → List Token
 tokensFrom s at = recordsFrom none s at false
 
+-- the line of a token
+abbrev pub lineOf : Token → List ℕ
+lineOf t = line (t .kind) (t .len)
+
 -- the lines of tokens, one after the other
 abbrev pub linesOf : List Token → List ℕ
-linesOf [] = []
-linesOf (t ∷ ts) = line (t .kind) (t .len) ++ linesOf ts
+linesOf ts = joined lineOf ts
 
 -- the bytes of tokens
 abbrev pub bytes : List Token → ℕ
@@ -27,7 +31,7 @@ bytes (t ∷ ts) = t .len + bytes ts
 abbrev pub linesFrom : (s : List ℕ) (at : ℕ) → List ℕ
 linesFrom s at = linesOf (tokensFrom s at)
 
--- the first tokens whose lines are put into so many bytes: as long as the longest line, of 33 bytes, would fit
+-- the first tokens whose lines are put into `room` bytes: as long as the longest line, of 33 bytes, would fit
 abbrev pub fitting : (room : ℕ) → List Token → List Token
 fitting room [] = []
-fitting room (t ∷ ts) = pick (ltb room 33) [] (t ∷ fitting (room - length (line (t .kind) (t .len))) ts)
+fitting room (t ∷ ts) = pick (ltb room 33) [] (t ∷ fitting (room - length (lineOf t)) ts)

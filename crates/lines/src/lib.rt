@@ -1,10 +1,10 @@
 // The lines of the tokens of a text, put into a lent buffer part by part.
 ghost use Prim.Native.Nat.{_≤_};
 ghost use mathlib.Core.Path.{_≡_};
-ghost use mathlib.Core.Bool.{false};
 ghost use lib.ListN.{length};
-ghost use Rattle.lexer.specs.Scans.{scanAt};
 ghost use Rattle.token.specs.Lists.{none};
+ghost use Rattle.lexer.specs.Checked.{Checked};
+ghost use Rattle.lexer.specs.Steps.{nextOf};
 ghost use Rattle.lines.specs.Filled.{Filled};
 use lexer::Scan;
 
@@ -14,31 +14,33 @@ pub struct Chunk {
     pub used: usize,
 }
 
-// The token at a position, with empty lists and frontmatter off.
-fn token_at(text: &[u8], at: usize) -> Scan
-    requires { ⌜ length (now text) ≤ 4294967295 ⌝ }
-    ensures { λ r. ⌜ r ≡ scanAt none (now (text .entry)) at false ⌝ }
+// The scan past a scan, with empty lists.
+fn step(text: &[u8], c: Scan) -> Scan
+    requires { ⌜ Checked (now text) none ⌝ }
+    ensures { λ r. ⌜ r ≡ nextOf none (now (text .entry)) c ⌝ }
 {
     let empty = [0u32; 0];
-    lexer::step(text, at, false, &empty, &empty, &empty)
+    lexer::step(text, &empty, &empty, &empty, c)
 }
 
-// Lines of the tokens from a position on, as many as are sure to fit into out. Eof has no length and no line: the loop ends there.
+// Lines of the tokens from a position on, with frontmatter off, as many as are sure to fit into out. Eof has no length and no line: the loop ends
+// there.
 pub fn fill(text: &[u8], at: usize, out: &mut [u8]) -> Chunk
-    requires { ⌜ (length (now text) ≤ 4294967295) × (33 ≤ length (now out)) ⌝ }
+    requires { ⌜ Checked (now text) none × (33 ≤ length (now out)) ⌝ }
     ensures { λ r. ⌜ Filled (now (text .entry)) at (now (out .entry)) (now (out .exit)) r ⌝ }
 {
-    let mut next = at;
+    let mut scan = lexer::before(at, false);
     let mut used = 0;
     while 33 <= out.len() - used {
-        let scan = token_at(text, next);
-        let token = scan.token;
+        let past = step(text, scan);
+        let token = past.token;
         if token.len == 0 {
             break;
         }
         let kind = token.kind;
         used = token_line::put_line(out, used, kind, token.len);
-        next = scan.next;
+        scan = past;
     }
+    let next = scan.next;
     Chunk { next, used }
 }

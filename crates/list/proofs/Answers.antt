@@ -5,7 +5,7 @@ use mathlib.Core.Path.{_≡_, refl, sym, ap, _∙_}
 use mathlib.Core.Bool.{Bool, true, false}
 use mathlib.Core.List.{List}
 use lib.Dec.{leb}
-use lib.ListN.{length, take, drop, replicate, length-append, length-drop}
+use lib.ListN.{length, take, drop, getD, replicate, length-append, length-drop}
 use borrow.Author.Tests.{leb-true}
 use native.Mathlib.Omega.{arith}
 use lib.Seq.{take-at, drop-at}
@@ -13,13 +13,14 @@ use Rattle.basics.specs.Choice.{pick}
 use Rattle.refusal.specs.declared.Bad.{Bad}
 use Rattle.refusal.specs.declared.Verdict.{Verdict}
 use Rattle.refusal.specs.declared.Verdict.the-variants as verdict
+use Rattle.refusal.specs.Order.{refusedOr}
 use Rattle.token.specs.declared.Token.{Token}
 use Rattle.token.specs.Lists.{Lists}
 use Rattle.token.specs.Tokens.{records}
 use Rattle.lexer.specs.Answers.{tokenVerdict}
 use Rattle.plan.specs.declared.ListAnswer.{ListAnswer}
 use Rattle.plan.specs.declared.ListAnswer.the-variants.{Listed, Slots, Refused}
-use Rattle.plan.specs.Answers.{listOf, listed}
+use Rattle.plan.specs.Answers.{listed}
 use Rattle.list.specs.declared.Records.{Records}
 use Rattle.list.specs.Records.{Tokenized, recordsOf}
 use Rattle.list.proofs.tokenize_64.Reads as tokenize-64
@@ -41,7 +42,7 @@ module _ (limit : ℕ) (s : List ℕ) (L : Lists) (on : Bool) (old : List Token)
   counted (Slots n) none = n
   counted (Refused bad) none = none
 
-  counts : (v : Verdict) (t : Bool) (k : ℕ) → counted (listOf v (pick t (Listed k) (Slots k))) k ≡ k
+  counts : (v : Verdict) (t : Bool) (k : ℕ) → counted (refusedOr Refused v (pick t (Listed k) (Slots k))) k ≡ k
   counts verdict.Fine true k = refl
   counts verdict.Fine false k = refl
   counts (verdict.Refused bad) t k = refl
@@ -50,7 +51,7 @@ module _ (limit : ℕ) (s : List ℕ) (L : Lists) (on : Bool) (old : List Token)
   counted-all p = ap (λ (x : ListAnswer). counted x total) (p .0) ∙ counts (tokenVerdict limit s L) (leb total (length old)) total
 
   -- as many records as before
-  kept : (v : Verdict) (t : Bool) → leb total (length old) ≡ t → length (listed (listOf v (pick t (Listed total) (Slots total))) (records L on s) old) ≡ length old
+  kept : (v : Verdict) (t : Bool) → leb total (length old) ≡ t → length (listed (refusedOr Refused v (pick t (Listed total) (Slots total))) (records L on s) old) ≡ length old
   kept verdict.Fine true e = omega (arith, length-append (records L on s) (drop total old), length-drop total old, leb-true total (length old) e)
   kept verdict.Fine false e = refl
   kept (verdict.Refused bad) t e = refl
@@ -92,3 +93,7 @@ records-length limit s L on blank e = same-length limit s L on (replicate 64 bla
 -- ONE ANSWER of the call over 64 records
 pub one-records : (κs : _) (a : _) (r q : Records) (x y : _) → tokenize-64.Post κs a r x → tokenize-64.Post κs a q y → r ≡ q
 one-records κs a r q x y p e = p ∙ sym e
+
+-- and of the record at an index: the promise of `get` as its contract has it
+pub one-record : (ts : List Token) (i : ℕ) (none : Token) {r q : Token} → r ≡ getD ts i none → q ≡ getD ts i none → r ≡ q
+one-record ts i none p e = p ∙ sym e

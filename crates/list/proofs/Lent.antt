@@ -24,7 +24,7 @@ use denote.Ask.Bracket.{beside}
 use Rattle.token.specs.declared.Token.{Token}
 use Rattle.token.specs.Lists.{Lists, lent}
 use Rattle.lexer.specs.declared.Scan.{Scan}
-use Rattle.plan.specs.Steps.{nextOf, following}
+use Rattle.lexer.specs.Steps.{nextOf, following}
 
 -- ---- the slices, their lifetimes and the shares of their tokens
 abbrev pub Refs : Type 0

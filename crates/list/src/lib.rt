@@ -4,7 +4,8 @@ ghost use mathlib.Core.List.{_++_};
 ghost use Prim.Native.Nat.{_≤_};
 ghost use lib.ListN.{length, drop, getD};
 ghost use Rattle.token.specs.Lists.{lent};
-ghost use Rattle.plan.specs.Steps.{Checked, following};
+ghost use Rattle.lexer.specs.Checked.{Checked};
+ghost use Rattle.lexer.specs.Steps.{following};
 ghost use Rattle.list.specs.Records.{Tokenized, recordsOf};
 use lexer::Scan;
 use plan::ListAnswer;
@@ -26,7 +27,7 @@ fn fill(
     let mut c = s;
     let mut i: usize = 0;
     while i < n {
-        c = plan::next(text, starts, continues, emoji, c);
+        c = lexer::step(text, starts, continues, emoji, c);
         out[i] = c.token;
         i = i + 1;
     }

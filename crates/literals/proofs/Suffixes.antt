@@ -6,7 +6,7 @@ use mathlib.Core.List.{List}
 use lib.ListN.{take}
 use native.Mathlib.Omega.{arith}
 use Rattle.text.specs.Chars.{size}
-use Rattle.eaters.specs.Eat.{Eater, Read, give, nothing, _>>=_, _>>_, choose}
+use Rattle.eaters.specs.Eat.{Eater, Read, give, nothing, _>>=_, _>>_}
 use Rattle.eaters.specs.Scan.{scan}
 use Rattle.eaters.proofs.Fits.{Fits}
 use Rattle.token.specs.declared.HashCount.{HashCount}
@@ -14,7 +14,7 @@ use Rattle.token.specs.declared.HashCount.the-variants.{Of, NoCount}
 use Rattle.token.specs.declared.LiteralKind.{LiteralKind}
 use Rattle.token.specs.declared.TokenKind.the-variants as kind
 use Rattle.token.specs.Lists.{Lists}
-use Rattle.token.specs.Literals.{identifier, Body}
+use Rattle.token.specs.Literals.{identifier, Body, suffix}
 use Rattle.token.specs.Quotes.{quoted, doubleTurn, doubleQuoted, single, singleQuoted}
 use Rattle.token.specs.Numbers.{number}
 use Rattle.token.specs.RawStrings.{rawString}
@@ -45,7 +45,7 @@ module _ (L : Lists) (m : Eater Body) (f : Fits 0 m) {s : List ℕ} {a b : Curso
       record {
         past = subst (Past a (r .next)) (sym (q .kind)) (record { from = omega arith; to = omega (arith, passed (q .ran .moved) .bytes) });
         ran = λ before. ran-word
-            (ran-bind (λ (y : Read Body). choose (y .said .suffixed) (identifier L) nothing >> give (kind.Literal (y .said .kind) (before + size (y .text)))) (ran-texted p) (ran-then (q .ran) (ran-give _ s (r .next))))
+            (ran-bind (λ (y : Read Body). suffix L (y .said .suffixed) >> give (kind.Literal (y .said .kind) (before + size (y .text)))) (ran-texted p) (ran-then (q .ran) (ran-give _ s (r .next))))
             (ap (kindFrom before a) (q .kind) ∙ ap (kind.Literal (x .kind)) (omega arith));
       }
 

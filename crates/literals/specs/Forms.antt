@@ -3,12 +3,12 @@ use Prim.Native.Nat.{ℕ}
 use mathlib.Core.Path.{_≡_}
 use mathlib.Core.Bool.{Bool, true, false}
 use mathlib.Core.List.{List}
-use Rattle.eaters.specs.Eat.{Eater, nothing, choose}
+use Rattle.eaters.specs.Eat.{Eater}
 use Rattle.token.specs.declared.HashCount.{HashCount}
 use Rattle.token.specs.declared.LiteralKind.{LiteralKind}
 use Rattle.token.specs.declared.LiteralKind.the-variants as kind
 use Rattle.token.specs.Lists.{Lists}
-use Rattle.token.specs.Literals.{identifier, Body, literal}
+use Rattle.token.specs.Literals.{Body, suffix, literal}
 use Rattle.cursor.specs.declared.Cursor.{Cursor}
 use Rattle.cursor.specs.declared.Kinded.the-variants.{Literal}
 use Rattle.cursor.specs.declared.Scanned.{Scanned}
@@ -34,7 +34,7 @@ rawKind C n = kind.RawCStr n
 -- the suffix of a literal whose body ends at c
 pub record SuffixRan (L : Lists) (k : LiteralKind) (suffixed : Bool) (s : List ℕ) (c : Cursor) (r : Scanned) : Type 0 where
   pub kind : r .kind ≡ Literal k c
-  pub ran : Ran (choose suffixed (identifier L) nothing) s c (r .next) tt
+  pub ran : Ran (suffix L suffixed) s c (r .next) tt
 
 -- a literal of which any number of bytes is taken before
 pub record LiteralRan (L : Lists) (body : Eater Body) (s : List ℕ) (from : Cursor) (r : Scanned) : Type 0 where

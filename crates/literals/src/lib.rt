@@ -52,7 +52,7 @@ fn raw_kind(form: Form, n_hashes: HashCount) -> LiteralKind
 }
 
 // The suffix of a literal whose body ends at `at`, if one is read.
-pub fn eat_literal_suffix(
+fn eat_literal_suffix(
     text: &[u8],
     kind: LiteralKind,
     at: Cursor,

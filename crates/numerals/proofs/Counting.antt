@@ -15,7 +15,7 @@ use Rattle.cursor.specs.declared.Step.the-variants.{Got, Over}
 use Rattle.cursor.specs.Cursors.{rest, Seen}
 use Rattle.cursor.proofs.Moves.{char-at, end-at}
 use Rattle.cursor.proofs.Loops.{Eaten, eaten-none, eaten-on, eaten-off, eaten-over}
-use Rattle.numerals.specs.Counts.{Counted}
+use Rattle.numerals.specs.Counts.{digitOf, Counted}
 
 -- hexadecimal digits, by the three ranges
 module _ (c : ℕ) {t : Bool} (e : t ≡ digit c) where
@@ -28,6 +28,13 @@ module _ (c : ℕ) {t : Bool} (e : t ≡ digit c) where
 
     pub hex-capital : {v : Bool} → u ≡ false → v ≡ within 0x41 0x46 c → v ≡ hexDigit c
     hex-capital h g = rw (← e, n, ← f, h) g
+
+-- one kind of digits or the other
+pub digit-hex : (c : ℕ) {hex t : Bool} → hex ≡ true → t ≡ hexDigit c → t ≡ digitOf hex c
+digit-hex c h e = rw h e
+
+pub digit-decimal : (c : ℕ) {hex t : Bool} → hex ≡ false → t ≡ digit c → t ≡ digitOf hex c
+digit-decimal c h e = rw h e
 
 -- digits of q, and underscores
 abbrev pub spaced : (ℕ → Bool) → ℕ → Bool

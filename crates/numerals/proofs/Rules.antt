@@ -3,11 +3,13 @@ use Prim.Native.Nat.{ℕ}
 use mathlib.Core.Path.{_≡_, refl, sym, ap, _∙_}
 use mathlib.Core.Bool.{Bool, true, false, not}
 use mathlib.Core.List.{List, []}
+use mathlib.Core.Logic.{_⊎_, inl, inr}
 use lib.Dec.{eqb}
 use lib.ListN.{getD, drop}
 use borrow.Author.Tests.{ne-eqb}
 use Rattle.basics.specs.Choice.{or}
 use Rattle.classes.specs.Identifiers.{digit, idStart}
+use Rattle.classes.proofs.Points.{either-point}
 use Rattle.eaters.specs.Eat.{Eater, give, nothing, takeWhile, while, _>>_}
 use Rattle.eaters.specs.Look.{ifEat}
 use Rattle.token.specs.declared.Base.{Base}
@@ -17,7 +19,7 @@ use Rattle.token.specs.declared.LiteralKind.the-variants.{Int, Float}
 use Rattle.token.specs.Names.{is, '+', '-', 'dot', 'E', 'b', 'e', 'o', 'x'}
 use Rattle.token.specs.Lists.{lent}
 use Rattle.token.specs.Literals.{Body}
-use Rattle.token.specs.Numbers.{any, hexDigit, decimals, hexadecimals, int, float, exponent, maybeExponent, fraction, based, decimal, number}
+use Rattle.token.specs.Numbers.{any, hexDigit, decimals, hexadecimals, int, float, sign, exponent, maybeExponent, afterPoint, fraction, afterDigits, based, decimal, number}
 use Rattle.cursor.specs.declared.Cursor.{Cursor}
 use Rattle.cursor.specs.Cursors.{rest}
 use Rattle.cursor.specs.Moved.{Moved}
@@ -25,9 +27,9 @@ use Rattle.cursor.specs.Ran.{Ran}
 use Rattle.cursor.proofs.Runs.{ran-word, ran-give, ran-bind, ran-then, ran-yes, ran-no, ran-take, ran-both, ran-not-both, ran-this, ran-that}
 use Rattle.cursor.proofs.Loops.{ran-while}
 use Rattle.numerals.specs.declared.Digits.{Digits}
-use Rattle.numerals.specs.Counts.{Counted, sign, afterPoint, afterDigits}
+use Rattle.numerals.specs.Counts.{Counted}
 
--- the marks of a rule, named so that a test of them can be told
+-- the marks of a rule, named so that a test of them can be stated
 abbrev signed : ℕ → Bool
 signed c = or (is '-' c) (is '+' c)
 
@@ -46,14 +48,11 @@ ran-counted {p} m = ran-while p (m .moved)
 
 -- a sign
 module _ {s : List ℕ} {a : Cursor} {c : ℕ} (e : c ≡ getD (rest s a) 0 0) where
-  pub minus-in : {b : Cursor} → c ≡ 0x2D → Moved s a b (drop 1 (rest s a)) → Ran sign s a b tt
-  minus-in {b} h m = ran-take nothing nothing signed e (rw h) m (ran-give tt s b)
+  pub signed-in : {b : Cursor} → (c ≡ 0x2B) ⊎ (c ≡ 0x2D) → Moved s a b (drop 1 (rest s a)) → Ran sign s a b tt
+  signed-in {b} h m = ran-take nothing nothing signed e (sym (either-point signed c 0x2B 0x2D refl refl h)) m (ran-give tt s b)
 
-  pub plus-in : {b : Cursor} → c ≡ 0x2B → Moved s a b (drop 1 (rest s a)) → Ran sign s a b tt
-  plus-in {b} h m = ran-take nothing nothing signed e (rw h) m (ran-give tt s b)
-
-  pub unsigned-in : (c ≡ 0x2D → ⊥) → (c ≡ 0x2B → ⊥) → Ran sign s a a tt
-  unsigned-in h k = ran-no _ nothing signed e (neither 0x2D 0x2B c h k) (ran-give tt s a)
+  pub unsigned-in : ((c ≡ 0x2B) ⊎ (c ≡ 0x2D) → ⊥) → Ran sign s a a tt
+  unsigned-in h = ran-no _ nothing signed e (neither 0x2D 0x2B c (λ k. h (inr k)) (λ k. h (inl k))) (ran-give tt s a)
 
 -- an exponent, after its e
 module _ (base : Base) {s : List ℕ} {a b : Cursor} {t : Digits} (g : Ran sign s a b tt) (m : Counted decimals digit s b t) where
@@ -71,14 +70,11 @@ module _ (base : Base) {s : List ℕ} {a b : Cursor} {t : Digits} (g : Ran sign 
 
 -- an exponent or none
 module _ (base : Base) (k : LiteralKind) {s : List ℕ} {a : Cursor} {c : ℕ} (e : c ≡ getD (rest s a) 0 0) where
-  pub small-e : {b d : Cursor} {x : Body} → c ≡ 0x65 → Moved s a b (drop 1 (rest s a)) → Ran (exponent base) s b d x → Ran (maybeExponent base (record { kind = k; suffixed = true })) s a d x
-  small-e h m r = ran-take (exponent base) _ raised e (rw h) m r
+  pub some-e : {b d : Cursor} {x : Body} → (c ≡ 0x45) ⊎ (c ≡ 0x65) → Moved s a b (drop 1 (rest s a)) → Ran (exponent base) s b d x → Ran (maybeExponent base (record { kind = k; suffixed = true })) s a d x
+  some-e h m r = ran-take (exponent base) _ raised e (sym (either-point raised c 0x45 0x65 refl refl h)) m r
 
-  pub capital-e : {b d : Cursor} {x : Body} → c ≡ 0x45 → Moved s a b (drop 1 (rest s a)) → Ran (exponent base) s b d x → Ran (maybeExponent base (record { kind = k; suffixed = true })) s a d x
-  capital-e h m r = ran-take (exponent base) _ raised e (rw h) m r
-
-  pub no-e : (c ≡ 0x65 → ⊥) → (c ≡ 0x45 → ⊥) → Ran (maybeExponent base (record { kind = k; suffixed = true })) s a a (record { kind = k; suffixed = true })
-  no-e h n = ran-no _ (give _) raised e (neither 0x65 0x45 c h n) (ran-give _ s a)
+  pub no-e : ((c ≡ 0x45) ⊎ (c ≡ 0x65) → ⊥) → Ran (maybeExponent base (record { kind = k; suffixed = true })) s a a (record { kind = k; suffixed = true })
+  no-e h = ran-no _ (give _) raised e (neither 0x65 0x45 c (λ n. h (inr n)) (λ n. h (inl n))) (ran-give _ s a)
 
 -- after a point that joins
 module _ (base : Base) {s : List ℕ} {a : Cursor} {c : ℕ} {t : Bool} (e : c ≡ getD (rest s a) 0 0) (f : t ≡ digit c) where

@@ -5,13 +5,11 @@ ghost use mathlib.Core.Bool.{true};
 ghost use mathlib.Core.List.{[]};
 ghost use Rattle.basics.specs.Tests.{within};
 ghost use Rattle.ranges.specs.Rules.{Good};
-ghost use Rattle.classes.specs.Identifiers.{digit};
 ghost use Rattle.token.specs.Lists.{lent};
 ghost use Rattle.token.specs.Numbers;
-ghost use Rattle.token.specs.Numbers.{hexDigit, decimals, hexadecimals, exponent, maybeExponent};
-ghost use Rattle.token.specs.declared.Base.the-variants.{Hexadecimal};
+ghost use Rattle.token.specs.Numbers.{hexDigit, sign, exponent, maybeExponent, afterPoint, afterDigits};
 ghost use Rattle.cursor.specs.Ran.{Ran};
-ghost use Rattle.numerals.specs.Counts.{Counted, sign, afterPoint, afterDigits};
+ghost use Rattle.numerals.specs.Counts.{digitOf, digitsOf, Counted};
 use cursor::Cursor;
 use cursor::Step;
 use text::CodePoint;
@@ -19,7 +17,7 @@ use token::Base;
 use token::LiteralKind;
 
 // What a scan of digits gives: the cursor past them and the underscores among them, and whether there is a digit.
-pub struct Digits {
+struct Digits {
     pub next: Cursor,
     pub some: bool,
 }
@@ -49,41 +47,26 @@ fn is_hex_digit(c: CodePoint) -> bool
     is_within(c, 0x41, 0x46)
 }
 
-// Past decimal digits and underscores. An underscore is no digit.
-pub fn eat_decimal_digits(text: &[u8], from: Cursor) -> Digits
-    ensures { λ r. ⌜ Counted decimals digit (now (text .entry)) from r ⌝ }
+// Whether c is a digit: a hexadecimal one, if `hex` says so, or a decimal one.
+fn is_digit_of(c: CodePoint, hex: bool) -> bool
+    ensures { λ r. ⌜ r ≡ digitOf hex c ⌝ }
 {
-    let mut cur = from;
-    let mut some = false;
-    loop {
-        match cur.peek(text) {
-            Step::Got(c, next) => {
-                if classes::is_digit(c) {
-                    some = true;
-                    cur = next;
-                } else {
-                    if c == 0x5F {
-                        cur = next;
-                    } else {
-                        return Digits { next: cur, some };
-                    }
-                }
-            }
-            Step::Over => return Digits { next: cur, some },
-        }
+    if hex {
+        return is_hex_digit(c);
     }
+    classes::is_digit(c)
 }
 
-// Past hexadecimal digits and underscores.
-pub fn eat_hexadecimal_digits(text: &[u8], from: Cursor) -> Digits
-    ensures { λ r. ⌜ Counted hexadecimals hexDigit (now (text .entry)) from r ⌝ }
+// Past digits and underscores (000's eat_decimal_digits and eat_hexadecimal_digits). An underscore is not a digit.
+fn eat_digits(text: &[u8], from: Cursor, hex: bool) -> Digits
+    ensures { λ r. ⌜ Counted (digitsOf hex) (digitOf hex) (now (text .entry)) from r ⌝ }
 {
     let mut cur = from;
     let mut some = false;
     loop {
         match cur.peek(text) {
             Step::Got(c, next) => {
-                if is_hex_digit(c) {
+                if is_digit_of(c, hex) {
                     some = true;
                     cur = next;
                 } else {
@@ -104,21 +87,18 @@ fn eat_sign(text: &[u8], from: Cursor) -> Cursor
     ensures { λ r. ⌜ Ran sign (now (text .entry)) from r tt ⌝ }
 {
     let c = from.first(text);
-    if c == 0x2D {
-        return from.bump(text);
+    match c {
+        0x2B | 0x2D => from.bump(text),
+        _ => from,
     }
-    if c == 0x2B {
-        return from.bump(text);
-    }
-    from
 }
 
 // An exponent, after its e: it is empty if it has no digit.
-pub fn eat_float_exponent(text: &[u8], from: Cursor, base: Base) -> Numeral
+fn eat_float_exponent(text: &[u8], from: Cursor, base: Base) -> Numeral
     ensures { λ r. ⌜ Ran (exponent base) (now (text .entry)) from (r .next) (record { kind = r .kind; suffixed = true }) ⌝ }
 {
     let start = eat_sign(text, from);
-    let t = eat_decimal_digits(text, start);
+    let t = eat_digits(text, start, false);
     let next = t.next;
     if t.some {
         return Numeral {
@@ -143,15 +123,12 @@ fn maybe_exponent(text: &[u8], from: Cursor, base: Base, otherwise: LiteralKind)
     ensures { λ r. ⌜ Ran (maybeExponent base (record { kind = otherwise; suffixed = true })) (now (text .entry)) from (r .next) (record { kind = r .kind; suffixed = true }) ⌝ }
 {
     let c = from.first(text);
-    if c == 0x65 {
-        return eat_float_exponent(text, from.bump(text), base);
-    }
-    if c == 0x45 {
-        return eat_float_exponent(text, from.bump(text), base);
-    }
-    Numeral {
-        kind: otherwise,
-        next: from,
+    match c {
+        0x45 | 0x65 => eat_float_exponent(text, from.bump(text), base),
+        _ => Numeral {
+            kind: otherwise,
+            next: from,
+        },
     }
 }
 
@@ -165,7 +142,7 @@ fn after_point(text: &[u8], from: Cursor, base: Base) -> Numeral
     };
     let c = from.first(text);
     if classes::is_digit(c) {
-        let t = eat_decimal_digits(text, from);
+        let t = eat_digits(text, from, false);
         let next = t.next;
         return maybe_exponent(text, next, base, kind);
     }
@@ -173,7 +150,7 @@ fn after_point(text: &[u8], from: Cursor, base: Base) -> Numeral
 }
 
 // After the digits of a number. A point joins, unless another one follows, as in a range, or the start of an identifier, as in a call of a method.
-pub fn fraction(text: &[u8], from: Cursor, base: Base, starts: &[u32]) -> Numeral
+fn fraction(text: &[u8], from: Cursor, base: Base, starts: &[u32]) -> Numeral
     requires { ⌜ Good (now starts) ⌝ }
     ensures { λ r. ⌜ Ran (Numbers.fraction (lent (now (starts .entry)) [] []) base) (now (text .entry)) from (r .next) (record { kind = r .kind; suffixed = true }) ⌝ }
 {
@@ -212,24 +189,14 @@ fn after_digits(text: &[u8], from: Cursor, some: bool, base: Base, starts: &[u32
     }
 }
 
-// A binary or an octal number, after its prefix. Every decimal digit is taken.
-fn based(text: &[u8], from: Cursor, base: Base, starts: &[u32]) -> Numeral
+// A number after its base prefix. A binary and an octal number take every decimal digit.
+fn based(text: &[u8], from: Cursor, base: Base, hex: bool, starts: &[u32]) -> Numeral
     requires { ⌜ Good (now starts) ⌝ }
-    ensures { λ r. ⌜ Ran (Numbers.based (lent (now (starts .entry)) [] []) base decimals digit) (now (text .entry)) from (r .next) (record { kind = r .kind; suffixed = true }) ⌝ }
+    ensures { λ r. ⌜ Ran (Numbers.based (lent (now (starts .entry)) [] []) base (digitsOf hex) (digitOf hex)) (now (text .entry)) from (r .next) (record { kind = r .kind; suffixed = true }) ⌝ }
 {
-    let t = eat_decimal_digits(text, from);
+    let t = eat_digits(text, from, hex);
     let next = t.next;
     after_digits(text, next, t.some, base, starts)
-}
-
-// A hexadecimal number, after its prefix.
-fn hexadecimal(text: &[u8], from: Cursor, starts: &[u32]) -> Numeral
-    requires { ⌜ Good (now starts) ⌝ }
-    ensures { λ r. ⌜ Ran (Numbers.based (lent (now (starts .entry)) [] []) Hexadecimal hexadecimals hexDigit) (now (text .entry)) from (r .next) (record { kind = r .kind; suffixed = true }) ⌝ }
-{
-    let t = eat_hexadecimal_digits(text, from);
-    let next = t.next;
-    after_digits(text, next, t.some, Base::Hexadecimal, starts)
 }
 
 // A number without a base prefix.
@@ -237,7 +204,7 @@ fn decimal(text: &[u8], from: Cursor, starts: &[u32]) -> Numeral
     requires { ⌜ Good (now starts) ⌝ }
     ensures { λ r. ⌜ Ran (Numbers.decimal (lent (now (starts .entry)) [] [])) (now (text .entry)) from (r .next) (record { kind = r .kind; suffixed = true }) ⌝ }
 {
-    let t = eat_decimal_digits(text, from);
+    let t = eat_digits(text, from, false);
     let next = t.next;
     fraction(text, next, Base::Decimal, starts)
 }
@@ -252,13 +219,13 @@ pub fn number(text: &[u8], from: Cursor, first: CodePoint, starts: &[u32]) -> Nu
     }
     let c = from.first(text);
     if c == 0x62 {
-        return based(text, from.bump(text), Base::Binary, starts);
+        return based(text, from.bump(text), Base::Binary, false, starts);
     }
     if c == 0x6F {
-        return based(text, from.bump(text), Base::Octal, starts);
+        return based(text, from.bump(text), Base::Octal, false, starts);
     }
     if c == 0x78 {
-        return hexadecimal(text, from.bump(text), starts);
+        return based(text, from.bump(text), Base::Hexadecimal, true, starts);
     }
     decimal(text, from, starts)
 }

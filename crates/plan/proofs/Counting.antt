@@ -11,41 +11,37 @@ use Rattle.text.specs.Chars.{chars, WellFormed}
 use Rattle.text.specs.Position.{onBoundary}
 use Rattle.token.specs.declared.Token.{Token}
 use Rattle.token.specs.Lists.{Lists}
-use Rattle.token.specs.Tokens.{tokens, records}
+use Rattle.token.specs.Tokens.{records}
 use Rattle.token.proofs.Cover.{few-records}
 use Rattle.lexer.specs.declared.Scan.{Scan}
-use Rattle.lexer.specs.Scans.{scanAt, recordsFrom}
-use Rattle.lexer.proofs.Records.{step-records, next-boundary}
-use Rattle.lexer.proofs.Walks.{begins-on, Char, char-there, none-past, records-past, fewer}
-use Rattle.plan.specs.Steps.{startOf, nextOf, following}
+use Rattle.lexer.specs.Checked.{Checked}
+use Rattle.lexer.specs.Steps.{startOf, nextOf, following, recordsPast}
+use Rattle.lexer.proofs.Walks.{begins-on, Char, char-there, records-end, next-edged, next-records, fewer}
 
 -- A COUNT SO FAR: the position is on a boundary, and the tokens counted and those from there on are the text's
-pub record Counted (L : Lists) (s : List ℕ) (on : Bool) (n at : ℕ) (flag : Bool) : Type 0 where
-  pub edged : onBoundary s at ≡ true
-  pub total : n + length (recordsFrom L s at flag) ≡ length (records L on s)
+pub record Counted (L : Lists) (s : List ℕ) (on : Bool) (n : ℕ) (c : Scan) : Type 0 where
+  pub edged : onBoundary s (c .next) ≡ true
+  pub total : n + length (recordsPast L s c) ≡ length (records L on s)
 
-pub counted-none : (L : Lists) (s : List ℕ) (on : Bool) → Counted L s on 0 0 on
-counted-none L s on = record { edged = begins-on (chars s); total = omega arith }
+pub counted-none : {L : Lists} {s : List ℕ} {on : Bool} {c : Scan} → c ≡ startOf on → Counted L s on 0 c
+counted-none {s = s} e = rw e (record { edged = begins-on (chars s); total = omega arith })
 
-module _ {L : Lists} {s : List ℕ} {on : Bool} {n at : ℕ} {flag : Bool} (k : Counted L s on n at flag) where
-  pub count-fits : length s ≤ 4294967295 → n + 1 < 18446744073709551616
-  count-fits h = omega (arith, k .total, few-records L on s)
+module _ {L : Lists} {s : List ℕ} {on : Bool} {n : ℕ} {c : Scan} (k : Counted L s on n c) where
+  pub count-fits : Checked s L → n + 1 < 18446744073709551616
+  count-fits h = omega (arith, h .fits, k .total, few-records L on s)
 
-  pub counted-all : length s ≤ at → n ≡ length (records L on s)
-  counted-all h = omega (arith, k .total, ap length (records-past L s at flag (none-past s at h)))
+  pub counted-all : length s ≤ c .next → n ≡ length (records L on s)
+  counted-all h = omega (arith, k .total, ap length (records-end L s c h))
 
-  module _ {x : Scan} (w : WellFormed s) (l : at < length s) (e : x ≡ scanAt L s at flag) where
-    there : Char (chars (drop at s))
-    there = char-there s at w (k .edged) l
+  module _ {x : Scan} (ready : Checked s L) (l : c .next < length s) (e : x ≡ nextOf L s c) where
+    there : Char (chars (drop (c .next) s))
+    there = char-there s (c .next) (ready .well) (k .edged) l
 
-    pub counted-less : length (chars (drop (x .next) s)) < length (chars (drop at s))
-    counted-less = rw e (fewer L s at flag w (k .edged) l)
+    pub counted-less : length (chars (drop (x .next) s)) < length (chars (drop (c .next) s))
+    counted-less = fewer L s c e there
 
-    pub counted-on : Counted L s on (n + 1) (x .next) (x .on)
-    counted-on = rw e (record {
-      edged = next-boundary L s at flag (k .edged);
-      total = omega (arith, k .total, ap length (step-records L s at flag (there .0) (there .1) (there .2)));
-    })
+    pub counted-on : Counted L s on (n + 1) x
+    counted-on = record { edged = next-edged L s c e (k .edged); total = omega (arith, k .total, ap length (next-records L s c e there)) }
 
 -- THE TOKENS of as many steps as there are records are the records
 module _ (L : Lists) (s : List ℕ) (w : WellFormed s) where
@@ -53,15 +49,14 @@ module _ (L : Lists) (s : List ℕ) (w : WellFormed s) where
   empty [] e = refl
   empty (t ∷ l) e = absurd (omega (arith, e))
 
-  there-or : (at : ℕ) (on : Bool) → onBoundary s at ≡ true → 1 ≤ length (recordsFrom L s at on) → Char (chars (drop at s))
-  there-or at on b h = ⊎-elim (λ l. char-there s at w b l) (λ l. absurd (omega (arith, ap length (records-past L s at on (none-past s at l))))) (below-or-not at (length s))
+  there-or : (c : Scan) → onBoundary s (c .next) ≡ true → 1 ≤ length (recordsPast L s c) → Char (chars (drop (c .next) s))
+  there-or c b h = ⊎-elim (λ l. char-there s (c .next) w b l) (λ l. absurd (omega (arith, ap length (records-end L s c l)))) (below-or-not (c .next) (length s))
 
-  steps-from : (n : ℕ) (c : Scan) → onBoundary s (c .next) ≡ true → length (recordsFrom L s (c .next) (c .on)) ≡ n → following L s n c ≡ recordsFrom L s (c .next) (c .on)
-  steps-from zero c b e = empty (recordsFrom L s (c .next) (c .on)) e
+  steps-from : (n : ℕ) (c : Scan) → onBoundary s (c .next) ≡ true → length (recordsPast L s c) ≡ n → following L s n c ≡ recordsPast L s c
+  steps-from zero c b e = empty (recordsPast L s c) e
   steps-from (suc n) c b e =
-      let t = there-or (c .next) (c .on) b (omega (arith, e)) in
-      let z = step-records L s (c .next) (c .on) (t .0) (t .1) (t .2) in
-      ap {B = List Token} (λ r. nextOf L s c .token ∷ r) (steps-from n (nextOf L s c) (next-boundary L s (c .next) (c .on) b) (omega (arith, ap length z, e))) ∙ sym z
+      let z : recordsPast L s c ≡ nextOf L s c .token ∷ recordsPast L s (nextOf L s c) = next-records L s c refl (there-or c b (omega (arith, e))) in
+      ap {B = List Token} (λ r. nextOf L s c .token ∷ r) (steps-from n (nextOf L s c) (next-edged L s c refl b) (omega (arith, ap length z, e))) ∙ sym z
 
   pub steps-records : (on : Bool) → following L s (length (records L on s)) (startOf on) ≡ records L on s
   steps-records on = steps-from (length (records L on s)) (startOf on) (begins-on (chars s)) refl

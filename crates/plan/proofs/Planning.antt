@@ -11,19 +11,20 @@ use Rattle.basics.specs.Choice.{pick}
 use Rattle.refusal.specs.declared.Bad.{Bad}
 use Rattle.refusal.specs.declared.Verdict.{Verdict}
 use Rattle.refusal.specs.declared.Verdict.the-variants as verdict
-use Rattle.text.specs.Chars.{WellFormed}
+use Rattle.refusal.specs.Order.{refusedOr}
 use Rattle.token.specs.declared.Token.{Token}
-use Rattle.token.specs.Lists.{Lists, lent}
+use Rattle.token.specs.Lists.{Lists}
 use Rattle.token.specs.Tokens.{records}
 use Rattle.lexer.specs.declared.Scan.{Scan}
+use Rattle.lexer.specs.Checked.{Checked}
+use Rattle.lexer.specs.Steps.{startOf, following}
 use Rattle.lexer.specs.Answers.{tokenVerdict}
-use Rattle.lexer.proofs.Checks.{step-ready, text-well}
+use Rattle.lexer.proofs.Checks.{fine-checked}
 use Rattle.plan.specs.declared.ListAnswer.{ListAnswer}
 use Rattle.plan.specs.declared.ListAnswer.the-variants.{Listed, Slots, Refused}
 use Rattle.plan.specs.declared.Plan as plan
-use Rattle.plan.specs.Steps.{Checked, startOf, following}
-use Rattle.plan.specs.Answers.{roomed, listOf, listAnswer, listed}
-use Rattle.plan.specs.Plans.{written, plannedOf, planOf}
+use Rattle.plan.specs.Answers.{roomed, listAnswer, listed}
+use Rattle.plan.specs.Plans.{toWrite, plannedOf, planOf}
 use Rattle.plan.proofs.Counting.{steps-records}
 
 -- A FUNCTION OF CASES gives at a case what it says there
@@ -35,26 +36,23 @@ pub planned-in : {on : Bool} {x : ListAnswer} {m : ℕ} {f : Scan} → f ≡ sta
 planned-in {x = x} {m = m} e = ap {B = plan.Plan} (λ f. record { answer = x; n = m; first = f }) e
 
 -- THE ANSWERS
-module _ (limit : ℕ) (s a b n : List ℕ) {v : Verdict} (e : v ≡ tokenVerdict limit s (lent a b n)) where
-  pub count-ready : v ≡ verdict.Fine → WellFormed s × Checked s (lent a b n)
-  count-ready k = (text-well limit s a b n e k, step-ready limit s a b n e k)
-
+module _ (limit : ℕ) (s : List ℕ) (L : Lists) {v : Verdict} (e : v ≡ tokenVerdict limit s L) where
   module _ (on : Bool) (slots : ℕ) where
-    answers : {p : plan.Plan} {x : ListAnswer} {m : ℕ} → m ≡ written x → x ≡ listAnswer limit s (lent a b n) on slots → p ≡ plannedOf on x m → p ≡ planOf limit s (lent a b n) on slots
-    answers {x = x} q r f = f ∙ ap (plannedOf on x) q ∙ ap (λ (y : ListAnswer). plannedOf on y (written y)) r
+    answers : {p : plan.Plan} {x : ListAnswer} {m : ℕ} → m ≡ toWrite x → x ≡ listAnswer limit s L on slots → p ≡ plannedOf on x m → p ≡ planOf limit s L on slots
+    answers {x = x} q r f = f ∙ ap (plannedOf on x) q ∙ ap (λ (y : ListAnswer). plannedOf on y (toWrite y)) r
 
-    module _ {m : ℕ} (k : v ≡ verdict.Fine) (c : m ≡ length (records (lent a b n) on s)) where
-      fine : roomed m slots ≡ listAnswer limit s (lent a b n) on slots
-      fine = ap (λ (j : ℕ). roomed j slots) c ∙ ap (λ (u : Verdict). listOf u (roomed (length (records (lent a b n) on s)) slots)) (sym k ∙ e)
+    module _ {m : ℕ} (k : v ≡ verdict.Fine) (c : m ≡ length (records L on s)) where
+      fine : roomed m slots ≡ listAnswer limit s L on slots
+      fine = ap (λ (j : ℕ). roomed j slots) c ∙ ap (λ (u : Verdict). refusedOr Refused u (roomed (length (records L on s)) slots)) (sym k ∙ e)
 
-      pub listed-in : {p : plan.Plan} → m ≤ slots → p ≡ plannedOf on (Listed m) m → p ≡ planOf limit s (lent a b n) on slots
+      pub listed-in : {p : plan.Plan} → m ≤ slots → p ≡ plannedOf on (Listed m) m → p ≡ planOf limit s L on slots
       listed-in l = answers refl (sym (ap (λ (t : Bool). pick t (Listed m) (Slots m)) (le-leb m slots l)) ∙ fine)
 
-      pub slots-in : {p : plan.Plan} → slots < m → p ≡ plannedOf on (Slots m) 0 → p ≡ planOf limit s (lent a b n) on slots
+      pub slots-in : {p : plan.Plan} → slots < m → p ≡ plannedOf on (Slots m) 0 → p ≡ planOf limit s L on slots
       slots-in l = answers refl (sym (ap (λ (t : Bool). pick t (Listed m) (Slots m)) (lt-leb m slots l)) ∙ fine)
 
-    pub refused-in : {p : plan.Plan} {bad : Bad} → v ≡ verdict.Refused bad → p ≡ plannedOf on (Refused bad) 0 → p ≡ planOf limit s (lent a b n) on slots
-    refused-in k = answers refl (ap (λ (u : Verdict). listOf u (roomed (length (records (lent a b n) on s)) slots)) (sym k ∙ e))
+    pub refused-in : {p : plan.Plan} {bad : Bad} → v ≡ verdict.Refused bad → p ≡ plannedOf on (Refused bad) 0 → p ≡ planOf limit s L on slots
+    refused-in k = answers refl (ap (λ (u : Verdict). refusedOr Refused u (roomed (length (records L on s)) slots)) (sym k ∙ e))
 
 -- THE PLAN, by the cases of the verdict and of the room
 module _ (limit : ℕ) (s : List ℕ) (L : Lists) (on : Bool) (slots : ℕ) where
@@ -62,19 +60,19 @@ module _ (limit : ℕ) (s : List ℕ) (L : Lists) (on : Bool) (slots : ℕ) wher
   total = length (records L on s)
 
   abbrev answered : Verdict → Bool → ListAnswer
-  answered v t = listOf v (pick t (Listed total) (Slots total))
+  answered v t = refusedOr Refused v (pick t (Listed total) (Slots total))
 
-  room-at : (v : Verdict) (t : Bool) → leb total slots ≡ t → written (answered v t) ≤ slots
+  room-at : (v : Verdict) (t : Bool) → leb total slots ≡ t → toWrite (answered v t) ≤ slots
   room-at verdict.Fine true e = leb-true total slots e
   room-at verdict.Fine false e = omega arith
   room-at (verdict.Refused bad) t e = omega arith
 
-  -- what is written has room
+  -- what is to be written has room
   pub plan-room : planOf limit s L on slots .n ≤ slots
   plan-room = room-at (tokenVerdict limit s L) (leb total slots) refl
 
-  ready-at : (v : Verdict) (t : Bool) → v ≡ tokenVerdict limit s L → 1 ≤ written (answered v t) → Checked s L
-  ready-at verdict.Fine t e h = step-ready limit s (L .starts) (L .continues) (L .emoji) e refl
+  ready-at : (v : Verdict) (t : Bool) → v ≡ tokenVerdict limit s L → 1 ≤ toWrite (answered v t) → Checked s L
+  ready-at verdict.Fine t e h = fine-checked limit s L e refl
   ready-at (verdict.Refused bad) t e h = absurd (omega arith)
 
   -- a step is asked only where the text and the lists were checked
@@ -82,8 +80,8 @@ module _ (limit : ℕ) (s : List ℕ) (L : Lists) (on : Bool) (slots : ℕ) wher
   plan-ready = ready-at (tokenVerdict limit s L) (leb total slots) refl
 
   listed-at : (old : List Token) (v : Verdict) (t : Bool) → v ≡ tokenVerdict limit s L
-      → following L s (written (answered v t)) (startOf on) ++ drop (written (answered v t)) old ≡ listed (answered v t) (records L on s) old
-  listed-at old verdict.Fine true e = ap (λ (l : List Token). l ++ drop total old) (steps-records L s (text-well limit s (L .starts) (L .continues) (L .emoji) e refl) on)
+      → following L s (toWrite (answered v t)) (startOf on) ++ drop (toWrite (answered v t)) old ≡ listed (answered v t) (records L on s) old
+  listed-at old verdict.Fine true e = ap (λ (l : List Token). l ++ drop total old) (steps-records L s (fine-checked limit s L e refl .well) on)
   listed-at old verdict.Fine false e = refl
   listed-at old (verdict.Refused bad) t e = refl
 

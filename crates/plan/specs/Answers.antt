@@ -6,9 +6,8 @@ use lib.Dec.{leb}
 use lib.ListN.{length, drop}
 use Rattle.basics.specs.Choice.{pick}
 use Rattle.refusal.specs.declared.Numbers.{Numbers}
-use Rattle.refusal.specs.declared.Verdict.{Verdict}
-use Rattle.refusal.specs.declared.Verdict.the-variants as verdict
 use Rattle.refusal.specs.Numbers.{numbers, badNumbers}
+use Rattle.refusal.specs.Order.{refusedOr}
 use Rattle.token.specs.declared.Token.{Token}
 use Rattle.token.specs.Lists.{Lists}
 use Rattle.token.specs.Tokens.{records}
@@ -20,13 +19,9 @@ use Rattle.plan.specs.declared.ListAnswer.the-variants.{Listed, Slots, R
 abbrev pub roomed : (needed slots : ℕ) → ListAnswer
 roomed needed slots = pick (leb needed slots) (Listed needed) (Slots needed)
 
-abbrev pub listOf : Verdict → ListAnswer → ListAnswer
-listOf verdict.Fine answer = answer
-listOf (verdict.Refused bad) answer = Refused bad
-
 -- THE ANSWER: 1, 3, 2 as the one-token call has them, then 5
 abbrev pub listAnswer : (limit : ℕ) (s : List ℕ) → Lists → (on : Bool) (slots : ℕ) → ListAnswer
-listAnswer limit s L on slots = listOf (tokenVerdict limit s L) (roomed (length (records L on s)) slots)
+listAnswer limit s L on slots = refusedOr Refused (tokenVerdict limit s L) (roomed (length (records L on s)) slots)
 
 -- THE CONTENTS: on success the records of the text, and past them what was there; a refusal changes nothing
 abbrev pub listed : ListAnswer → (tokens old : List Token) → List Token

@@ -1,20 +1,15 @@
 // What the list call answers, and what it is to write: every refusal is found, and the tokens are counted, before the first record is written.
 ghost use mathlib.Core.Path.{_≡_};
-ghost use Prim.Native.Nat.{_≤_};
 ghost use lib.ListN.{length};
-ghost use Rattle.text.specs.Chars.{WellFormed};
-ghost use Rattle.ranges.specs.Rules.{Good};
 ghost use Rattle.token.specs.Lists.{lent};
 ghost use Rattle.token.specs.Tokens.{records};
-ghost use Rattle.plan.specs.Steps.{startOf, nextOf};
+ghost use Rattle.lexer.specs.Checked.{Checked};
 ghost use Rattle.plan.specs.Answers.{listNumbers};
 ghost use Rattle.plan.specs.Plans.{plannedOf, planOf};
 use lexer::Scan;
 use refusal::Bad;
 use refusal::Numbers;
 use refusal::Verdict;
-use token::Token;
-use token::TokenKind;
 
 // What the list call says: done, with the number of tokens; fewer slots than tokens (5), with the number of tokens; or a refusal (1, 3, 2).
 pub enum ListAnswer {
@@ -49,52 +44,29 @@ pub struct Plan {
     pub first: Scan,
 }
 
-// Before the first token.
-fn start(on: bool) -> Scan
-    ensures { λ r. ⌜ r ≡ startOf on ⌝ }
-{
-    let token = Token {
-        kind: TokenKind::Eof,
-        len: 0,
-        start: 0,
-    };
-    Scan { token, next: 0, on }
-}
-
-// The scan past a scan of a text that was checked, with lists that were checked.
-pub fn next(text: &[u8], starts: &[u32], continues: &[u32], emoji: &[u32], c: Scan) -> Scan
-    requires { ⌜ (length (now text) ≤ 4294967295) × (Good (now starts) × Good (now continues) × Good (now emoji)) ⌝ }
-    ensures { λ r. ⌜ r ≡ nextOf (lent (now (starts .entry)) (now (continues .entry)) (now (emoji .entry))) (now (text .entry)) c ⌝ }
-{
-    lexer::step(text, c.next, c.on, starts, continues, emoji)
-}
-
 // The number of tokens of a text that was checked, in one pass.
 fn count(text: &[u8], starts: &[u32], continues: &[u32], emoji: &[u32], on: bool) -> usize
-    requires { ⌜ WellFormed (now text) × ((length (now text) ≤ 4294967295) × (Good (now starts) × Good (now continues) × Good (now emoji))) ⌝ }
+    requires { ⌜ Checked (now text) (lent (now starts) (now continues) (now emoji)) ⌝ }
     ensures { λ r. ⌜ r ≡ length (records (lent (now (starts .entry)) (now (continues .entry)) (now (emoji .entry))) on (now (text .entry))) ⌝ }
 {
     let mut n: usize = 0;
-    let mut at: usize = 0;
-    let mut flag = on;
-    while at < text.len() {
-        let scan = lexer::step(text, at, flag, starts, continues, emoji);
-        at = scan.next;
-        flag = scan.on;
+    let mut scan = lexer::start(on);
+    while scan.next < text.len() {
+        scan = lexer::step(text, starts, continues, emoji, scan);
         n = n + 1;
     }
     n
 }
 
-// An answer, and so many records from the first token on.
+// An answer, and n records from the first token on.
 fn planned(answer: ListAnswer, n: usize, on: bool) -> Plan
     ensures { λ r. ⌜ r ≡ plannedOf on answer n ⌝ }
 {
-    let first = start(on);
+    let first = lexer::start(on);
     Plan { answer, n, first }
 }
 
-// What the list call is to do with so many slots: refusals 1, 3, 2 and 5 in this order, and no record where there is one.
+// What the list call is to do with `slots` slots: refusals 1, 3, 2 and 5 in this order, and no record where there is one.
 pub fn plan_list(
     text: &[u8],
     starts: &[u32],

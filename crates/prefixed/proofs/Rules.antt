@@ -12,7 +12,9 @@ use Rattle.basics.proofs.Choices.{and-1}
 use Rattle.text.specs.Chars.{width}
 use Rattle.classes.specs.Identifiers.{idStart}
 use Rattle.eaters.specs.Eat.{Eater, give, eat, _>>_}
-use Rattle.token.specs.declared.TokenKind.the-variants.{RawIdent}
+use Rattle.eaters.specs.Look.{ifTwo}
+use Rattle.token.specs.declared.TokenKind.{TokenKind}
+use Rattle.token.specs.declared.TokenKind.the-variants.{RawIdent, ForcedKeywordIdent}
 use Rattle.token.specs.Lists.{Lists, lent, starting}
 use Rattle.token.specs.Names.{is, '#', 'double', 'single', 'r'}
 use Rattle.token.specs.Literals.{identifier, Body, literal}
@@ -20,13 +22,14 @@ use Rattle.token.specs.Words.{identOrUnknownPrefix}
 use Rattle.token.specs.Quotes.{doubleQuoted, singleQuoted}
 use Rattle.token.specs.RawStrings.{rawString}
 use Rattle.token.specs.Lifetimes.{character, lifetimeOrChar}
-use Rattle.token.specs.Prefixed.{hashOrQuote, afterR, afterC, afterB}
+use Rattle.token.specs.Punctuation.{hashOrQuote}
+use Rattle.token.specs.Prefixed.{hashed, afterR, afterK, afterC, afterB}
 use Rattle.cursor.specs.declared.Cursor.{Cursor}
 use Rattle.cursor.specs.declared.Kinded.the-variants as kinded
 use Rattle.cursor.specs.declared.Scanned.{Scanned}
 use Rattle.cursor.specs.Cursors.{rest}
 use Rattle.cursor.specs.Moved.{Moved}
-use Rattle.cursor.specs.Ran.{Ran, kindFrom, Past}
+use Rattle.cursor.specs.Ran.{Ran, kindFrom, Past, Begun}
 use Rattle.cursor.proofs.Runs.{ran-word, ran-give, ran-then, ran-eat, ran-yes, ran-no, ran-take, ran-both, ran-not-both, ran-as}
 use Rattle.cursor.proofs.Bytes.{bump-bytes, shifted, past-moved}
 use Rattle.words.specs.declared.Life.{Life}
@@ -35,7 +38,6 @@ use Rattle.words.specs.Lives.{LifeRan, found, other}
 use Rattle.literals.specs.declared.Form.{Form}
 use Rattle.literals.specs.declared.Form.the-variants.{Plain, Byte}
 use Rattle.literals.specs.Forms.{singleKind, doubleKind, rawKind, LiteralRan}
-use Rattle.prefixed.specs.Begins.{Begun}
 
 -- A QUOTE
 life : (i l : List ℕ) {s : List ℕ} {a : Cursor} {r : Scanned} → LifeRan i l s a (Found r) → Begun (lifetimeOrChar (lent i l [])) s a r
@@ -58,7 +60,7 @@ hash-yes c e = rw e
 pub hash-no : (c : ℕ) → (c ≡ 0x23 → ⊥) → eqb c 0x22 ≡ hashOrQuote c
 hash-no c n = rw (ne-eqb c 0x23 n)
 
--- the first of two tests is made: it holds, and the second tells; or it does not
+-- the first of two tests is made: it holds, and the second decides; or it does not
 pub second-tells : (c k : ℕ) {t u : Bool} → c ≡ k → t ≡ u → t ≡ and (eqb c k) u
 second-tells c k {t} {u} e f = f ∙ ap (λ (x : Bool). and x u) (sym (eq-eqb c k e))
 
@@ -73,17 +75,30 @@ module _ (L : Lists) (body : Eater Body) {s : List ℕ} {a b : Cursor} {c : ℕ}
   on-past : Past a (r .next) (r .kind)
   on-past = past-moved (r .kind) (r .next) (q .past) m
 
--- AFTER r
+-- AFTER r AND k: a hash and the start of an identifier, which k names; or not
 module _ (i l n : List ℕ) {s : List ℕ} {a : Cursor} {c d : ℕ} {t : Bool} (e : c ≡ getD (rest s a) 0 0) (f : d ≡ getD (rest s a) 1 0) (g : t ≡ and (is '#' c) (idStart i d)) where
+  named : (k : TokenKind) (that : Eater TokenKind) {b x : Cursor} → t ≡ true → Moved s a b (drop 1 (rest s a)) → Ran (identifier (lent i l [])) s b x tt → Begun (ifTwo (is '#') (starting (lent i l n)) (eat 1 >> identifier (lent i l n) >> give k) that) s a (record { kind = kinded.Plain k; next = x })
+  named k that {x = x} h m r = record { past = tt; ran = ran-both (eat 1 >> identifier (lent i l n) >> give k) that (is '#') (starting (lent i l n)) e f (sym g ∙ h) (ran-then (ran-then (ran-eat m) r) (ran-give k s x)) }
+
   pub raw-name-in : {b x : Cursor} → t ≡ true → Moved s a b (drop 1 (rest s a)) → Ran (identifier (lent i l [])) s b x tt → Begun (afterR (lent i l n)) s a (record { kind = kinded.Plain RawIdent; next = x })
-  raw-name-in {b} {x} h m r = record { past = tt; ran = ran-both (eat 1 >> identifier (lent i l n) >> give RawIdent) _ (is '#') (starting (lent i l n)) e f (sym g ∙ h) (ran-then (ran-then (ran-eat m) r) (ran-give RawIdent s x)) }
+  raw-name-in h m r = named RawIdent _ h m r
 
-  module _ (h : t ≡ false) {u : Bool} (k : u ≡ hashOrQuote c) {r : Scanned} where
-    pub raw-in : u ≡ true → LiteralRan (lent i l []) (rawString (rawKind Plain)) s a r → Begun (afterR (lent i l n)) s a r
-    raw-in v q = record { past = q .past; ran = ran-not-both _ _ (is '#') (starting (lent i l n)) e f (sym g ∙ h) (ran-yes (literal (lent i l n) 1 (rawString (rawKind Plain))) _ hashOrQuote e (sym k ∙ v) (q .ran 1)) }
+  pub forced-in : {b x : Cursor} → t ≡ true → Moved s a b (drop 1 (rest s a)) → Ran (identifier (lent i l [])) s b x tt → Begun (afterK (lent i l n)) s a (record { kind = kinded.Plain ForcedKeywordIdent; next = x })
+  forced-in h m r = named ForcedKeywordIdent _ h m r
 
-    pub no-raw-in : u ≡ false → Begun (identOrUnknownPrefix (lent [] l n)) s a r → Begun (afterR (lent i l n)) s a r
-    no-raw-in v q = record { past = q .past; ran = ran-not-both _ _ (is '#') (starting (lent i l n)) e f (sym g ∙ h) (ran-no _ (identOrUnknownPrefix (lent i l n)) hashOrQuote e (sym k ∙ v) (q .ran)) }
+  module _ (h : t ≡ false) {r : Scanned} where
+    unnamed : (this that : Eater TokenKind) → Begun that s a r → Begun (ifTwo (is '#') (starting (lent i l n)) this that) s a r
+    unnamed this that q = record { past = q .past; ran = ran-not-both this that (is '#') (starting (lent i l n)) e f (sym g ∙ h) (q .ran) }
+
+    pub unforced-in : Begun (identOrUnknownPrefix (lent [] l n)) s a r → Begun (afterK (lent i l n)) s a r
+    unforced-in q = unnamed _ (identOrUnknownPrefix (lent i l n)) q
+
+    module _ {u : Bool} (k : u ≡ hashOrQuote c) where
+      pub raw-in : u ≡ true → LiteralRan (lent i l []) (rawString (rawKind Plain)) s a r → Begun (afterR (lent i l n)) s a r
+      raw-in v q = unnamed _ _ (record { past = q .past; ran = ran-yes (literal (lent i l n) 1 (rawString (rawKind Plain))) _ hashOrQuote e (sym k ∙ v) (q .ran 1) })
+
+      pub no-raw-in : u ≡ false → Begun (identOrUnknownPrefix (lent [] l n)) s a r → Begun (afterR (lent i l n)) s a r
+      no-raw-in v q = unnamed _ _ (record { past = q .past; ran = ran-no _ (identOrUnknownPrefix (lent i l n)) hashOrQuote e (sym k ∙ v) (q .ran) })
 
 -- AFTER c
 module _ (i l n : List ℕ) (o : Form) {s : List ℕ} {a : Cursor} {c : ℕ} {r : Scanned} (e : c ≡ getD (rest s a) 0 0) where

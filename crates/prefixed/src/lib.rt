@@ -1,4 +1,4 @@
-// What a quote and the letters r, b and c begin, after them, each proved equal to its rule in the book.
+// What a quote and the letters r, k, b and c begin, after them, each proved equal to its rule in the book.
 ghost use mathlib.Core.Path.{_≡_};
 ghost use mathlib.Core.List.{[]};
 ghost use Rattle.basics.specs.Choice.{and};
@@ -8,9 +8,10 @@ ghost use Rattle.token.specs.Lists.{lent};
 ghost use Rattle.token.specs.Names.{is, '#', 'r'};
 ghost use Rattle.token.specs.Words.{identOrUnknownPrefix};
 ghost use Rattle.token.specs.Lifetimes.{lifetimeOrChar};
-ghost use Rattle.token.specs.Prefixed.{hashOrQuote, afterR, afterC, afterB};
+ghost use Rattle.token.specs.Punctuation.{hashOrQuote};
+ghost use Rattle.token.specs.Prefixed.{afterR, afterK, afterC, afterB};
+ghost use Rattle.cursor.specs.Ran.{Begun};
 ghost use Rattle.literals.specs.Forms.{doubleKind, rawKind};
-ghost use Rattle.prefixed.specs.Begins.{Begun};
 use cursor::Cursor;
 use cursor::Kinded;
 use cursor::Scanned;
@@ -30,7 +31,8 @@ pub fn lifetime_or_char(text: &[u8], from: Cursor, starts: &[u32], continues: &[
     }
 }
 
-fn is_hash_or_quote(c: CodePoint) -> bool
+// Whether c is a hash or a double quote.
+pub fn is_hash_or_quote(c: CodePoint) -> bool
     ensures { λ r. ⌜ r ≡ hashOrQuote c ⌝ }
 {
     if c == 0x23 {
@@ -39,7 +41,7 @@ fn is_hash_or_quote(c: CodePoint) -> bool
     c == 0x22
 }
 
-// Whether c and d, after an r, begin a raw identifier.
+// Whether c and d, after an r or a k, are a hash and the start of an identifier.
 fn is_raw_name(c: CodePoint, d: CodePoint, starts: &[u32]) -> bool
     requires { ⌜ Good (now starts) ⌝ }
     ensures { λ r. ⌜ r ≡ and (is '#' c) (idStart (now (starts .entry)) d) ⌝ }
@@ -95,6 +97,28 @@ pub fn after_r(
     }
     if is_hash_or_quote(c) {
         return literals::raw_literal(text, from, Form::Plain, starts, continues);
+    }
+    word(text, from, continues, emoji)
+}
+
+// What the letter k begins: a forced keyword or a word.
+pub fn after_k(
+    text: &[u8],
+    from: Cursor,
+    starts: &[u32],
+    continues: &[u32],
+    emoji: &[u32],
+) -> Scanned
+    requires { ⌜ Good (now starts) × Good (now continues) × Good (now emoji) ⌝ }
+    ensures { λ r. ⌜ Begun (afterK (lent (now (starts .entry)) (now (continues .entry)) (now (emoji .entry)))) (now (text .entry)) from r ⌝ }
+{
+    let c = from.first(text);
+    let d = from.second(text);
+    if is_raw_name(c, d, starts) {
+        return Scanned {
+            kind: Kinded::Plain(TokenKind::ForcedKeywordIdent),
+            next: words::eat_identifier(text, from.bump(text), starts, continues),
+        };
     }
     word(text, from, continues, emoji)
 }

@@ -2,8 +2,9 @@
 // More than 65,536 bytes are refused as too long: `refused`, a tab, 1, a tab, 0. Input that is not UTF-8 is refused likewise, as 2 and
 // with the place of the first ill-formed sequence. A refused input gives no other line.
 ghost use mathlib.Core.Path.{_≡_};
-ghost use Prim.Native.Nat.{_≤_};
 ghost use lib.ListN.{length};
+ghost use Rattle.token.specs.Lists.{none};
+ghost use Rattle.lexer.specs.Checked.{Checked};
 use libc::STDIN_FILENO;
 use libc::STDOUT_FILENO;
 use refusal::Bad;
@@ -23,9 +24,9 @@ fn output_room() -> [u8; 16384]
     [0; 16384]
 }
 
-// Writes the lines part by part, each as long as the room. A part that stands still is the end.
+// Writes the lines of a text that was checked part by part, each as long as the room. A part that stands still is the end.
 fn say_tokens(text: &[u8])
-    requires { ⌜ length (now text) ≤ 65536 ⌝ }
+    requires { ⌜ Checked (now text) none ⌝ }
 {
     let mut out = output_room();
     let mut at = 0;
@@ -40,6 +41,15 @@ fn say_tokens(text: &[u8])
     }
 }
 
+// Writes the lines of a text, or why it is refused.
+fn say(text: &[u8]) {
+    let empty = [0u32; 0];
+    match lexer::token_verdict(text, &empty, &empty, &empty) {
+        Verdict::Refused(bad) => reports::say_bad(bad),
+        Verdict::Fine => say_tokens(text),
+    }
+}
+
 fn main() {
     let mut buf = input_room();
     let n = io::read_full(STDIN_FILENO, &mut buf);
@@ -47,8 +57,5 @@ fn main() {
         reports::say_bad(Bad::TooLong);
         return;
     }
-    match text::check_text(&buf[..n]) {
-        Verdict::Refused(bad) => reports::say_bad(bad),
-        Verdict::Fine => say_tokens(&buf[..n]),
-    }
+    say(&buf[..n]);
 }

@@ -14,7 +14,7 @@ pub record Put (xs out : List ℕ) (at : ℕ) (after : List ℕ) (r : ℕ) : Typ
   pub next : r ≡ at + length xs
   pub room : r ≤ length out
 
--- the same of at most so many bytes
+-- the same of at most `most` bytes
 pub record PutFew (most : ℕ) (xs out : List ℕ) (at : ℕ) (after : List ℕ) (r : ℕ) : Type 0 where
   pub put : Put xs out at after r
   pub few : length xs ≤ most

@@ -12,6 +12,7 @@ use Rattle.eaters.specs.Eat.{Got, Eater, takeMost, whileMost}
 use Rattle.eaters.specs.Scan.{after, run, firstWith}
 use Rattle.token.specs.Names.{is, 'double', '#'}
 use Rattle.cursor.specs.declared.Cursor.{Cursor}
+use Rattle.cursor.specs.declared.Repeated.{Repeated}
 use Rattle.cursor.specs.declared.Step.{Step}
 use Rattle.cursor.specs.declared.Step.the-variants.{Got as Char, Over}
 use Rattle.cursor.specs.Cursors.{rest, Seen}
@@ -19,7 +20,6 @@ use Rattle.cursor.specs.Moved.{Moved, start, over, onward, arrive, left-of, no-
 use Rattle.cursor.specs.Ran.{left, Ran}
 use Rattle.cursor.proofs.Moves.{char-at, end-at}
 use Rattle.quoted.specs.Raws.{CountedMost}
-use Rattle.quoted.specs.declared.Hashes.{Hashes}
 use Rattle.quoted.proofs.Pounds.{most, leftMost}
 
 abbrev F : ℕ → Eater Bool
@@ -52,7 +52,7 @@ run-most (suc n) (c ∷ cs) = go (eqb c 0x23) (run-most n cs)
     go true e = e ∙ sym (eqb·suc-suc (most n cs) n)
     go false e = sym (eqb·zero-suc n)
 
--- hashes are no quotes: the search goes over them
+-- hashes are not quotes: the search goes over them
 abbrev Same : ℕ → List ℕ → List ℕ → Type 0
 Same n cs ds = (left (F n) cs ≡ left (F n) ds) × (F n cs .said ≡ F n ds .said)
 
@@ -98,7 +98,7 @@ module _ (n : ℕ) {s : List ℕ} {a b : Cursor} {r : Step} (i : Seeking n s a b
     pub seek-other : (c ≡ 0x22 → ⊥) → Seeking n s a d
     seek-other q = on-by (step-other n c (rest s d) q)
 
-    module _ (q : c ≡ 0x22) {k : Hashes} (g : CountedMost n s d k) where
+    module _ (q : c ≡ 0x22) {k : Repeated} (g : CountedMost n s d k) where
       pub seek-short : (k .count ≡ n → ⊥) → Seeking n s a (k .next)
       seek-short z =
           let v : run '#' n (rest s d) ≡ false = run-most n (rest s d) ∙ ne-eqb _ n (λ w. z (g .count ∙ w)) in

@@ -1,4 +1,4 @@
--- Counting hashes, in the facts of the code.
+-- Counting hashes, some at the most, in the facts of the code.
 use Prim.Native.Nat.{ℕ, zero, suc, _+_, _-_, _≤_, _<_}
 use mathlib.Core.Path.{_≡_, refl, sym, ap, _∙_}
 use mathlib.Core.List.{List, [], _∷_}
@@ -14,19 +14,7 @@ use Rattle.cursor.specs.Cursors.{rest, Seen}
 use Rattle.cursor.specs.Moved.{Moved, start, over, onward, arrive}
 use Rattle.cursor.specs.Ran.{left}
 use Rattle.cursor.proofs.Moves.{char-at, end-at}
-use Rattle.cursor.proofs.Counts.{Counting, AllCounted, counting-off, counting-over}
-use Rattle.quoted.specs.Raws.{Counted, CountedMost}
-
--- ALL HASHES (Counts of the cursor)
-module _ {s : List ℕ} {a b : Cursor} {n : ℕ} {r : Step} (i : Counting '#' s a b n) (h : Seen s b r) where
-  all : AllCounted '#' s a b n → Counted s a (record { next = b; count = n })
-  all k = record { moved = k .moved; count = k .count }
-
-  pub counted-off : {x : ℕ} {d : Cursor} → r ≡ Got x d → (x ≡ 0x23 → ⊥) → Counted s a (record { next = b; count = n })
-  counted-off e q = all (counting-off i h e q)
-
-  pub counted-over : r ≡ Over → Counted s a (record { next = b; count = n })
-  counted-over e = all (counting-over i h e)
+use Rattle.quoted.specs.Raws.{CountedMost}
 
 -- AT MOST m HASHES: n are counted, so m - n may still come
 abbrev pub most : ℕ → List ℕ → ℕ

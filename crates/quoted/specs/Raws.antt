@@ -3,9 +3,10 @@ use Prim.Native.Nat.{ℕ}
 use mathlib.Core.Path.{_≡_}
 use mathlib.Core.List.{List}
 use lib.ListN.{length}
-use Rattle.eaters.specs.Eat.{takeWhile, while, takeMost, whileMost}
+use Rattle.eaters.specs.Eat.{takeMost, whileMost}
 use Rattle.token.specs.Names.{is, '#'}
 use Rattle.cursor.specs.declared.Cursor.{Cursor}
+use Rattle.cursor.specs.declared.Repeated.{Repeated}
 use Rattle.cursor.specs.Cursors.{rest}
 use Rattle.cursor.specs.Moved.{Moved}
 use Rattle.token.specs.declared.HashCount.{HashCount}
@@ -15,15 +16,9 @@ use Rattle.token.specs.Literals.{Body}
 use Rattle.token.specs.RawStrings.{counted, uncounted, rawString}
 use Rattle.cursor.specs.Ran.{left, Ran}
 use Rattle.quoted.specs.declared.RawQuoted.{RawQuoted}
-use Rattle.quoted.specs.declared.Hashes.{Hashes}
 
--- the hashes at a cursor, and how many they are
-pub record Counted (s : List ℕ) (from : Cursor) (r : Hashes) : Type 0 where
-  pub moved : Moved s from (r .next) (left (while (is '#')) (rest s from))
-  pub count : r .count ≡ length (takeWhile (is '#') (rest s from))
-
--- the same, n at the most
-pub record CountedMost (n : ℕ) (s : List ℕ) (from : Cursor) (r : Hashes) : Type 0 where
+-- the hashes at a cursor, n at the most, and how many they are
+pub record CountedMost (n : ℕ) (s : List ℕ) (from : Cursor) (r : Repeated) : Type 0 where
   pub moved : Moved s from (r .next) (left (whileMost n (is '#')) (rest s from))
   pub count : r .count ≡ length (takeMost n (is '#') (rest s from))
 

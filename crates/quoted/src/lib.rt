@@ -4,9 +4,10 @@ ghost use Rattle.token.specs.Quotes.{doubleTurn, singleTurn, single};
 ghost use Rattle.eaters.specs.Scan.{firstWith};
 ghost use Rattle.token.specs.Names.{'double', '#'};
 ghost use Rattle.cursor.specs.Ran.{Ran};
-ghost use Rattle.quoted.specs.Raws.{Counted, CountedMost, RawRan};
+ghost use Rattle.quoted.specs.Raws.{CountedMost, RawRan};
 use cursor::Cursor;
 use cursor::Ended;
+use cursor::Repeated;
 use cursor::Step;
 use token::HashCount;
 
@@ -96,34 +97,8 @@ pub fn single_quoted_string(text: &[u8], from: Cursor) -> Ended
     }
 }
 
-// The cursor past some hashes, and how many they are.
-pub struct Hashes {
-    pub next: Cursor,
-    pub count: usize,
-}
-
-// The hashes at a cursor.
-pub fn eat_hashes(text: &[u8], from: Cursor) -> Hashes
-    ensures { λ r. ⌜ Counted (now (text .entry)) from r ⌝ }
-{
-    let mut cur = from;
-    let mut count: usize = 0;
-    loop {
-        match cur.peek(text) {
-            Step::Got(c, next) => {
-                if c != 0x23 {
-                    return Hashes { next: cur, count };
-                }
-                cur = next;
-                count += 1;
-            }
-            Step::Over => return Hashes { next: cur, count },
-        }
-    }
-}
-
 // The hashes at a cursor, `most` at the most.
-pub fn eat_hashes_most(text: &[u8], from: Cursor, most: usize) -> Hashes
+pub fn eat_hashes_most(text: &[u8], from: Cursor, most: usize) -> Repeated
     ensures { λ r. ⌜ CountedMost most (now (text .entry)) from r ⌝ }
 {
     let mut cur = from;
@@ -132,15 +107,15 @@ pub fn eat_hashes_most(text: &[u8], from: Cursor, most: usize) -> Hashes
         match cur.peek(text) {
             Step::Got(c, next) => {
                 if c != 0x23 {
-                    return Hashes { next: cur, count };
+                    return Repeated { next: cur, count };
                 }
                 cur = next;
                 count += 1;
             }
-            Step::Over => return Hashes { next: cur, count },
+            Step::Over => return Repeated { next: cur, count },
         }
     }
-    Hashes { next: cur, count }
+    Repeated { next: cur, count }
 }
 
 // The rest of a raw string, after its quote: the first quote with `count` hashes after it closes. Hashes that were counted are not read again.
@@ -179,7 +154,7 @@ pub struct RawQuoted {
 pub fn raw_double_quoted_string(text: &[u8], from: Cursor) -> RawQuoted
     ensures { λ r. ⌜ RawRan (now (text .entry)) from r ⌝ }
 {
-    let hashes = eat_hashes(text, from);
+    let hashes = from.eat_repeated(text, 0x23);
     let n = hashes.count;
     let quote = hashes.next;
     let c = quote.first(text);

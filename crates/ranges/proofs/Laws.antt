@@ -35,7 +35,7 @@ no-flaw : (which : ℕ) (f : Flaw) → elim f [ Nowhere ↦ Fine | Pair k ↦ Re
 no-flaw which Nowhere e = refl
 no-flaw which (Pair k) e = let z : _≡_ {A = ℕ} 0 1 = cc in absurd (omega arith)
 
--- a choice between a pair and another flaw, which is no flaw
+-- a choice between a pair and another flaw, which is not a flaw
 left : (t : Bool) (k : ℕ) (f : Flaw) → pick t (Pair k) f ≡ Nowhere → (t ≡ false) × (f ≡ Nowhere)
 left true k f e = let z : _≡_ {A = ℕ} 0 1 = cc in absurd (omega arith)
 left false k f e = (refl, e)
@@ -74,7 +74,7 @@ module _ (first last low high c : ℕ) (e : meets first last low high ≡ false)
   apart : (c < first) ⊎ (last < c)
   apart = ⊎-elim (λ (f : c < first). inl f) (λ (f : first ≤ c). beyond f (below-or-not last c)) (below-or-not c first)
 
--- so it is no point from first to last
+-- so it is not a point from first to last
 miss : {c first last : ℕ} (n : ℕ) → (c < first) ⊎ (last < c) → first ≤ n → n ≤ last → c ≡ n → ⊥
 miss n (inl h) p q e = omega arith
 miss n (inr h) p q e = omega arith

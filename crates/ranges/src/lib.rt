@@ -10,7 +10,7 @@ use refusal::Verdict;
 pub const MAX_PAIRS: usize = 2048;
 
 // Where a list breaks a rule: nowhere, or at the pair of this index.
-pub enum Flaw {
+enum Flaw {
     Nowhere,
     Pair(usize),
 }

@@ -1,1 +1,3 @@
 pub mod Orders
+pub mod Answers
+pub mod Handing

@@ -3,7 +3,7 @@
 // the numbers of each case, made from `badNumbers`.
 ghost use mathlib.Core.Path.{_≡_};
 ghost use Rattle.refusal.specs.Order.{inOrder, listsInOrder};
-ghost use Rattle.refusal.specs.Numbers.{badNumbers, verdictNumbers};
+ghost use Rattle.refusal.specs.Numbers.{numbers, badNumbers, verdictNumbers};
 
 pub enum Bad {
     // the text has more than 4,294,967,295 bytes
@@ -25,6 +25,17 @@ pub struct Numbers {
     pub number: u32,
     pub beside: usize,
     pub second: usize,
+}
+
+// Done, with the numbers that a call reports.
+pub fn done(beside: usize, second: usize) -> Numbers
+    ensures { λ r. ⌜ r ≡ numbers 0 beside second ⌝ }
+{
+    Numbers {
+        number: 0,
+        beside,
+        second,
+    }
 }
 
 pub fn bad_numbers(bad: Bad) -> Numbers
@@ -63,7 +74,7 @@ pub fn verdict_numbers(verdict: Verdict) -> Numbers
 }
 
 // The first refusal of two checks.
-pub fn first(one: Verdict, next: Verdict) -> Verdict
+fn first(one: Verdict, next: Verdict) -> Verdict
     ensures { λ r. ⌜ r ≡ Rattle.refusal.specs.Order.first one next ⌝ }
 {
     match one {

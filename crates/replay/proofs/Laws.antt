@@ -1,43 +1,46 @@
--- Where a vector that is there leaves the tally.
-use Prim.Native.Nat.{ℕ, _+_, _-_, _≤_}
-use mathlib.Core.Bool.{Bool}
-use mathlib.Core.Path.{_≡_}
+-- One vector more, and k of them, in the facts of the code.
+use Prim.Native.Nat.{ℕ, _+_, _-_, _≤_, _<_}
+use mathlib.Core.Bool.{Bool, true, false}
+use mathlib.Core.Path.{_≡_, refl}
 use native.Mathlib.Omega.{arith}
 use Rattle.vectors.specs.declared.Vector.{Vector}
-use Rattle.vectors.specs.declared.Vector.the-variants.{Of}
-use Rattle.vectors.specs.declared.Part.{Part}
-use Rattle.vectors.specs.declared.Part.the-variants.{At}
-use Rattle.vectors.specs.Placed.{InFile, Parts, VectorInFile}
-use Rattle.vectors.proofs.Laws.{placed, vector-placed}
+use Rattle.vectors.specs.Placed.{VectorPlaced}
 use Rattle.replay.specs.declared.Tally.{Tally}
-use Rattle.replay.specs.Counted.{Counted, Within}
+use Rattle.replay.specs.Counted.{Counted, Stopped, One, Steps}
 
-pub parts-within : (n at : ℕ) {o a b c d : ℕ} {v : Vector} → VectorInFile n at v → v ≡ Of o a b c d
-    → Within n (record { from = a; to = b }) × Within n (record { from = c; to = d })
-parts-within n at {o} {a} {b} {c} {d} h e =
-    let p : Parts n at a b c d = vector-placed n at h e in
-    (record { order = p .input .order; room = p .input .room }, record { order = p .answer .order; room = p .answer .room })
+module _ {t : Tally} {to : ℕ} {agrees w : Bool} where
+  pub one-same : agrees ≡ true → One t to agrees (record { at = to; same = t .same + 1; other = t .other; stopped = w })
+  one-same e = record { place = refl; once = omega arith; same = rw e }
 
--- one vector more, counted on one side or the other
-module _ {n : ℕ} {t : Tally} (g : Counted n t) {o a b c d : ℕ} {v : Vector} (h : VectorInFile n (t .at) v) (e : v ≡ Of o a b c d) where
-  placed-here : Parts n (t .at) a b c d
-  placed-here = vector-placed n (t .at) h e
+  pub one-other : agrees ≡ false → One t to agrees (record { at = to; same = t .same; other = t .other + 1; stopped = w })
+  one-other e = record { place = refl; once = omega arith; same = rw e (omega arith) }
 
-  pub one-same : {w : Bool} → Counted n (record { at = d; same = t .same + 1; other = t .other; whole = w })
-  one-same = let p = placed-here in record { room = p .answer .room; few = omega (arith, g .few, p .input .past, p .input .order, p .answer .past, p .answer .order) }
+-- where the file is out of form, not all need be counted
+not-all : {a b : ℕ} {w : Bool} → w ≡ true → w ≡ false → a ≡ b
+not-all e f = let z : _≡_ {A = ℕ} 0 1 = cc in omega arith
 
-  pub one-other : {w : Bool} → Counted n (record { at = d; same = t .same; other = t .other + 1; whole = w })
-  one-other = let p = placed-here in record { room = p .answer .room; few = omega (arith, g .few, p .input .past, p .input .order, p .answer .past, p .answer .order) }
+module _ {n : ℕ} {t r : Tally} (c : Counted n t) where
+  pub step-out : Stopped t r → Steps n 1 t r
+  step-out h = record { counted = record { room = omega arith; few = omega arith }; most = omega arith; all = not-all (h .out) }
 
--- past the three lists and the count of a section
-module _ {n : ℕ} {t : Tally} (g : Counted n t) {a b c d e f : ℕ} {p q r : Part} (h₁ : InFile n (t .at) p) (e₁ : p ≡ At a b) (h₂ : InFile n b q) (e₂ : q ≡ At c d)
-    (h₃ : InFile n d r) (e₃ : r ≡ At e f) where
-  pub header-room : f ≤ n
-  header-room = placed n d h₃ e₃ .room
+  pub step-one : {v : Vector} {agrees : Bool} → VectorPlaced n (t .at) v → t .at < v .answer .to → One t (v .answer .to) agrees r → Steps n 1 t r
+  step-one h l o = record { counted = record { room = omega arith; few = omega arith }; most = omega arith; all = λ e. o .once }
 
-  pub header : {w : Bool} → 4 ≤ n - f → Counted n (record { at = f + 4; same = t .same; other = t .other; whole = w })
-  header k =
-      let i = placed n (t .at) h₁ e₁ in
-      let j = placed n b h₂ e₂ in
-      let l = placed n d h₃ e₃ in
-      record { room = omega (arith, l .room); few = omega (arith, g .few, i .past, i .order, j .past, j .order, l .past, l .order) }
+-- k vectors less those that are left are counted
+pub record Going (n k : ℕ) (from t : Tally) (left : ℕ) : Type 0 where
+  pub counted : Counted n t
+  pub rest : t .same + t .other + left ≡ from .same + from .other + k
+
+pub going-starts : {n k : ℕ} {from : Tally} → Counted n from → Going n k from from k
+going-starts c = record { counted = c; rest = refl }
+
+module _ {n k left : ℕ} {from t : Tally} (g : Going n k from t left) where
+  pub going-done : left ≤ 0 → Steps n k from t
+  going-done h = record { counted = g .counted; most = omega arith; all = λ e. omega arith }
+
+  module _ (l : 0 < left) {r : Tally} (s : Steps n 1 t r) where
+    pub going-stops : r .stopped ≡ true → Steps n k from r
+    going-stops e = record { counted = s .counted; most = omega arith; all = not-all e }
+
+    pub going-on : r .stopped ≡ false → Going n k from r (left - 1)
+    going-on e = record { counted = s .counted; rest = omega (arith, s .all e) }

@@ -2,177 +2,18 @@
 // For each file it writes how many vectors agree and how many do not, the place of each that does not, and the sums at the end.
 // tools/oracle/README.md describes the files and how they are made.
 ghost use mathlib.Core.Path.{_≡_};
-ghost use Prim.Native.Nat.{_≤_};
+ghost use Prim.Native.Nat.{_+_, _<_, _≤_};
 ghost use lib.ListN.{length};
-ghost use Rattle.replay.specs.Counted.{Counted, Within};
-use classes::Answer;
+ghost use Rattle.replay.specs.Counted.{Counted, Within, Stopped, One, Steps};
 use libc::STDOUT_FILENO;
-use refusal::Numbers;
-use refusal::Verdict;
 use vectors::Part;
-use vectors::Vector;
 
-// How far a file was read, what agreed and what did not, and whether the file was in order so far.
-pub struct Tally {
+// How far a file was read, what agreed and what did not, and whether the file is out of form.
+struct Tally {
     pub at: usize,
     pub same: usize,
     pub other: usize,
-    pub whole: bool,
-}
-
-// A part of a file, from its first place to the place past it.
-pub struct Span {
-    pub from: usize,
-    pub to: usize,
-}
-
-// Numbers that no call gives: the answers of a run of numbers differ.
-fn mixed() -> Numbers {
-    Numbers {
-        number: 255,
-        beside: 0,
-        second: 0,
-    }
-}
-
-fn same_numbers(a: Numbers, b: Numbers) -> bool {
-    if a.number != b.number {
-        return false;
-    }
-    if a.beside != b.beside {
-        return false;
-    }
-    a.second == b.second
-}
-
-// The class call of an operation, of one number.
-fn class(operation: u32, c: u32, starts: &[u32], continues: &[u32], emoji: &[u32]) -> Numbers {
-    match operation {
-        3 => classes::answer_numbers(Answer::Is(classes::is_whitespace(c))),
-        4 => classes::answer_numbers(Answer::Is(classes::is_horizontal_whitespace(c))),
-        5 => classes::answer_numbers(classes::is_id_start(c, starts)),
-        6 => classes::answer_numbers(classes::is_id_continue(c, continues)),
-        7 => classes::answer_numbers(classes::is_emoji_char(c, emoji)),
-        _ => mixed(),
-    }
-}
-
-// The same of every number from low to high: the answer that all of them have.
-fn class_run(
-    operation: u32,
-    low: u32,
-    high: u32,
-    starts: &[u32],
-    continues: &[u32],
-    emoji: &[u32],
-) -> Numbers {
-    let first = class(operation, low, starts, continues, emoji);
-    let mut c = low;
-    while c < high {
-        c += 1;
-        let next = class(operation, c, starts, continues, emoji);
-        if !same_numbers(first, next) {
-            return mixed();
-        }
-    }
-    first
-}
-
-// The verdict on a text as one byte: 0, or 1 and the place.
-fn verdict_byte(text: &[u8]) -> u8 {
-    let n = refusal::verdict_numbers(text::check_text(text));
-    if n.number == 0 {
-        0
-    } else {
-        (n.beside % 255) as u8 + 1
-    }
-}
-
-// Byte i of a text that is followed by b and then by zeros.
-fn byte_then(text: &[u8], b: u8, i: usize) -> u8 {
-    if i < text.len() {
-        return text[i];
-    }
-    if i == text.len() { b } else { 0 }
-}
-
-// The first nine bytes of a text that is followed by b.
-fn nine(text: &[u8], b: u8) -> [u8; 9]
-    ensures { λ r. ⌜ 9 ≡ length r ⌝ }
-{
-    let mut out = [0u8; 9];
-    let mut i = 0;
-    while i < 9 {
-        let next = byte_then(text, b, i);
-        out[i] = next;
-        i += 1;
-    }
-    out
-}
-
-// The verdict on a text of at most 8 bytes followed by b.
-fn verdict_after(text: &[u8], b: u8) -> u8 {
-    if 8 < text.len() {
-        return 255;
-    }
-    let longer = nine(text, b);
-    let e = text.len() + 1;
-    verdict_byte(&longer[..e])
-}
-
-// The verdicts on a text followed by each byte.
-fn verdicts_after(text: &[u8], out: &mut [u8]) -> usize
-    ensures { λ r. ⌜ r ≤ length (now (out .exit)) ⌝ }
-{
-    if out.len() < 256 {
-        return 0;
-    }
-    let mut b = 0;
-    while b < 256 {
-        let v = verdict_after(text, (b % 256) as u8);
-        out[b] = v;
-        b += 1;
-    }
-    256
-}
-
-// The answer of an operation, put into out: how many bytes it took.
-fn answer(
-    operation: u32,
-    input: &[u8],
-    starts: &[u32],
-    continues: &[u32],
-    emoji: &[u32],
-    out: &mut [u8],
-) -> usize
-    ensures { λ r. ⌜ r ≤ length (now (out .exit)) ⌝ }
-{
-    match operation {
-        1 => vectors::put_numbers(out, refusal::verdict_numbers(text::check_text(input))),
-        2 => verdicts_after(input, out),
-        3..=7 => {
-            let low = vectors::number(input, 0);
-            let high = vectors::number(input, 4);
-            vectors::put_numbers(
-                out,
-                class_run(operation, low, high, starts, continues, emoji),
-            )
-        }
-        8 => vectors::put_numbers(
-            out,
-            classes::answer_numbers(classes::is_ident(input, starts, continues)),
-        ),
-        9 => replies::one_token(input, starts, continues, emoji, out),
-        10 => replies::tokens(input, starts, continues, emoji, out),
-        11 => replies::shebang(input, out),
-        12 => replies::raw_check(input, out),
-        13 => replies::guarded_string(input, starts, continues, out),
-        14 => replies::tokens_once(input, starts, continues, emoji, out),
-        15 => listings::listed(input, starts, continues, emoji, out),
-        16 => listings::slots(input, starts, continues, emoji, out),
-        17 => keyings::keyed(input, starts, continues, emoji, out),
-        _ => 0,
-    }
+    pub stopped: bool,
 }
 
 fn say_bad(at: usize) {
@@ -181,14 +22,15 @@ fn say_bad(at: usize) {
     io::write_all(STDOUT_FILENO, b"\n");
 }
 
-fn broken(t: Tally) -> Tally
-    ensures { λ r. ⌜ (r .at ≡ t .at) × (r .same ≡ t .same) × (r .other ≡ t .other) ⌝ }
+// The file is out of form: nothing more of it is read.
+fn stop(t: Tally) -> Tally
+    ensures { λ r. ⌜ Stopped t r ⌝ }
 {
     Tally {
         at: t.at,
         same: t.same,
         other: t.other,
-        whole: false,
+        stopped: true,
     }
 }
 
@@ -196,21 +38,42 @@ fn broken(t: Tally) -> Tally
 fn agrees(
     s: &[u8],
     operation: u32,
-    input: Span,
-    stored: Span,
+    input: Part,
+    answer: Part,
     starts: &[u32],
     continues: &[u32],
     emoji: &[u32],
     out: &mut [u8],
 ) -> bool
-    requires { ⌜ Within (length (now s)) input × Within (length (now s)) stored ⌝ }
+    requires { ⌜ Within (length (now s)) input × Within (length (now s)) answer ⌝ }
 {
     let a = input.from;
     let b = input.to;
-    let c = stored.from;
-    let d = stored.to;
-    let k = answer(operation, &s[a..b], starts, continues, emoji, out);
+    let c = answer.from;
+    let d = answer.to;
+    let k = stored::answer(operation, &s[a..b], starts, continues, emoji, out);
     check::same(&out[..k], &s[c..d])
+}
+
+// One vector more, up to a place: it agrees, or it differs.
+fn counted(t: Tally, to: usize, agrees: bool) -> Tally
+    requires { ⌜ t .same + t .other < to ⌝ }
+    ensures { λ r. ⌜ One t to agrees r ⌝ }
+{
+    if agrees {
+        return Tally {
+            at: to,
+            same: t.same + 1,
+            other: t.other,
+            stopped: t.stopped,
+        };
+    }
+    Tally {
+        at: to,
+        same: t.same,
+        other: t.other + 1,
+        stopped: t.stopped,
+    }
 }
 
 // The vector at the tally's place.
@@ -223,29 +86,20 @@ fn step(
     out: &mut [u8],
 ) -> Tally
     requires { ⌜ Counted (length (now s)) t ⌝ }
-    ensures { λ r. ⌜ Counted (length (now (s .entry))) r ⌝ }
+    ensures { λ r. ⌜ Steps (length (now (s .entry))) 1 t r ⌝ }
 {
     let at = t.at;
-    let Vector::Of(operation, a, b, c, d) = vectors::vector_at(s, at) else {
-        return broken(t);
-    };
-    let input = Span { from: a, to: b };
-    let stored = Span { from: c, to: d };
-    if agrees(s, operation, input, stored, starts, continues, emoji, out) {
-        return Tally {
-            at: d,
-            same: t.same + 1,
-            other: t.other,
-            whole: t.whole,
-        };
+    let v = vectors::vector_at(s, at);
+    let input = v.input;
+    let answer = v.answer;
+    if answer.to <= at {
+        return stop(t);
     }
-    say_bad(at);
-    Tally {
-        at: d,
-        same: t.same,
-        other: t.other + 1,
-        whole: t.whole,
+    let same = agrees(s, v.operation, input, answer, starts, continues, emoji, out);
+    if !same {
+        say_bad(at);
     }
+    counted(t, answer.to, same)
 }
 
 // As many vectors as `count` says.
@@ -259,21 +113,21 @@ fn steps(
     out: &mut [u8],
 ) -> Tally
     requires { ⌜ Counted (length (now s)) from ⌝ }
-    ensures { λ r. ⌜ Counted (length (now (s .entry))) r ⌝ }
+    ensures { λ r. ⌜ Steps (length (now (s .entry))) count from r ⌝ }
 {
     let mut t = from;
     let mut left = count;
     while 0 < left {
-        if !t.whole {
+        t = step(s, t, starts, continues, emoji, out);
+        if t.stopped {
             return t;
         }
-        t = step(s, t, starts, continues, emoji, out);
         left -= 1;
     }
     t
 }
 
-// Zeros for a list. Only the length is told, so that no proof unfolds the zeros.
+// Zeros for a list. Only the length is promised, so that no proof unfolds the zeros.
 fn list_room() -> [u32; 4200]
     ensures { λ r. ⌜ 4200 ≡ length r ⌝ }
 {
@@ -285,20 +139,20 @@ fn with_lists(
     s: &[u8],
     first: Tally,
     count: u32,
-    starts_at: Span,
-    continues_at: Span,
-    emoji_at: Span,
+    starts_at: Part,
+    continues_at: Part,
+    emoji_at: Part,
     out: &mut [u8],
 ) -> Tally
     requires { ⌜ Counted (length (now s)) first ⌝ }
-    ensures { λ r. ⌜ Counted (length (now (s .entry))) r ⌝ }
+    ensures { λ r. ⌜ Steps (length (now (s .entry))) count first r ⌝ }
 {
     let mut starts = list_room();
-    let i = vectors::load(s, starts_at.from, starts_at.to, &mut starts);
+    let i = vectors::load(s, starts_at, &mut starts);
     let mut continues = list_room();
-    let j = vectors::load(s, continues_at.from, continues_at.to, &mut continues);
+    let j = vectors::load(s, continues_at, &mut continues);
     let mut emoji = list_room();
-    let k = vectors::load(s, emoji_at.from, emoji_at.to, &mut emoji);
+    let k = vectors::load(s, emoji_at, &mut emoji);
     steps(
         s,
         first,
@@ -310,42 +164,35 @@ fn with_lists(
     )
 }
 
-// One section: three lists, a count, and so many vectors.
+// One section: three lists, a count, and as many vectors.
 fn section(s: &[u8], t: Tally, out: &mut [u8]) -> Tally
     requires { ⌜ Counted (length (now s)) t ⌝ }
     ensures { λ r. ⌜ Counted (length (now (s .entry))) r ⌝ }
 {
-    let at = t.at;
-    let Part::At(a, b) = vectors::numbers_at(s, at) else {
-        return broken(t);
-    };
-    let Part::At(c, d) = vectors::numbers_at(s, b) else {
-        return broken(t);
-    };
-    let Part::At(e, f) = vectors::numbers_at(s, d) else {
-        return broken(t);
-    };
-    if s.len() - f < 4 {
-        return broken(t);
+    let starts = vectors::numbers_at(s, t.at);
+    if starts.to <= t.at {
+        return stop(t);
+    }
+    let continues = vectors::numbers_at(s, starts.to);
+    if continues.to <= starts.to {
+        return stop(t);
+    }
+    let emoji = vectors::numbers_at(s, continues.to);
+    if emoji.to <= continues.to {
+        return stop(t);
+    }
+    let at = emoji.to;
+    if s.len() - at < 4 {
+        return stop(t);
     }
     let first = Tally {
-        at: f + 4,
+        at: at + 4,
         same: t.same,
         other: t.other,
-        whole: t.whole,
+        stopped: t.stopped,
     };
-    let starts = Span { from: a, to: b };
-    let continues = Span { from: c, to: d };
-    let emoji = Span { from: e, to: f };
-    with_lists(
-        s,
-        first,
-        vectors::number(s, f),
-        starts,
-        continues,
-        emoji,
-        out,
-    )
+    let count = vectors::number(s, at);
+    with_lists(s, first, count, starts, continues, emoji, out)
 }
 
 // Every section of a file.
@@ -356,19 +203,19 @@ fn sections(s: &[u8], out: &mut [u8]) -> Tally
         at: 0,
         same: 0,
         other: 0,
-        whole: true,
+        stopped: false,
     };
     loop {
         let at = t.at;
         if s.len() <= at {
             return t;
         }
-        if !t.whole {
+        if t.stopped {
             return t;
         }
         let next = section(s, t, out);
         if next.at <= at {
-            return broken(t);
+            return stop(t);
         }
         t = next;
     }
@@ -380,7 +227,7 @@ fn say(t: Tally) {
     io::write_all(STDOUT_FILENO, b" agree, ");
     io::print_decimal(STDOUT_FILENO, t.other as u64);
     io::write_all(STDOUT_FILENO, b" differ\n");
-    if !t.whole {
+    if t.stopped {
         io::write_all(STDOUT_FILENO, b"the file is out of form\n");
     }
 }
@@ -399,7 +246,7 @@ fn nothing() -> Tally
         at: 0,
         same: 0,
         other: 0,
-        whole: false,
+        stopped: true,
     }
 }
 
@@ -445,7 +292,7 @@ fn main() {
             at: 0,
             same: std::num::wrapping_add_usize(sum.same, t.same),
             other: std::num::wrapping_add_usize(sum.other, t.other),
-            whole: true,
+            stopped: false,
         };
         i += 1;
     }

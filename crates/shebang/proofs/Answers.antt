@@ -1,18 +1,13 @@
--- Document 01, "Nothing left open": two answers that the promise allows for the same text are the same answer.
-use Prim.Native.Nat.{ℕ}
-use mathlib.Core.Path.{_≡_, refl, sym, ap, _∙_}
-use native.Mathlib.Omega.{arith}
-use Rattle.shebang.specs.declared.Shebang.{Shebang}
-use Rattle.shebang.specs.declared.Shebang.the-variants.{Ends, Absent}
+-- Document 01, "Nothing left open": two answers that a call's promise allows for the same arguments are the same answer.
+use mathlib.Core.Path.{_≡_, sym, _∙_}
+use Rattle.refusal.specs.declared.Numbers.{Numbers}
 use Rattle.token.specs.Lists.{none}
-use Rattle.shebang.specs.Places.{placeOf}
-use Rattle.shebang.proofs.shebang_end.Reads as shebang-end
+use Rattle.shebang.specs.declared.ShebangAnswer.{ShebangAnswer}
+use Rattle.shebang.proofs.strip_shebang.Reads as strip-shebang
+use Rattle.shebang.proofs.shebang_numbers.Reads as shebang-numbers
 
-one-place : (r q : Shebang) → placeOf r ≡ placeOf q → r ≡ q
-one-place (Ends m) (Ends n) e = let k : m ≡ n = cc in ap Ends k
-one-place (Ends m) Absent e = let z : _≡_ {A = ℕ} 0 1 = cc in absurd (omega arith)
-one-place Absent (Ends n) e = let z : _≡_ {A = ℕ} 0 1 = cc in absurd (omega arith)
-one-place Absent Absent e = refl
+pub one-shebang : (κs : _) (a : _) (r q : ShebangAnswer) (x y : _) → strip-shebang.Post κs a r x → strip-shebang.Post κs a q y → r ≡ q
+one-shebang κs a r q x y p e = p .answer none ∙ sym (e .answer none)
 
-pub one-shebang : (κs : _) (a : _) (r q : Shebang) (x y : _) → shebang-end.Post κs a r x → shebang-end.Post κs a q y → r ≡ q
-one-shebang κs a r q x y p e = one-place r q (p .place none ∙ sym (e .place none))
+pub one-shebang-numbers : (κs : _) (a : _) (r q : Numbers) (x y : _) → shebang-numbers.Post κs a r x → shebang-numbers.Post κs a q y → r ≡ q
+one-shebang-numbers κs a r q x y p e = p ∙ sym e

@@ -1,4 +1,4 @@
--- The first token that is no trivia: the first token decides, or those past it, if it is trivia.
+-- The first token that is not trivia: the first token decides, or those past it, if it is trivia.
 use Prim.Native.Nat.{ℕ}
 use mathlib.Core.Path.{_≡_, refl, ap, _∙_}
 use mathlib.Core.Bool.{Bool, true, false}
@@ -10,10 +10,9 @@ use Rattle.token.specs.Lists.{Lists}
 use Rattle.token.specs.Advance.{plain, advance}
 use Rattle.token.specs.Tokens.{tokensAfter, tokens}
 use Rattle.token.specs.Trivia.{isTrivia}
-use Rattle.token.specs.Shebang.{meaningful}
+use Rattle.token.specs.Shebang.{meaningful, isBracket, bracketed}
 use Rattle.token.proofs.Cover.{tokens-step}
 use Rattle.cursor.specs.Ran.{left}
-use Rattle.shebang.specs.Places.{isBracket, bracketed}
 
 bracket-pick : (t : Bool) (j k : TokenKind) → isBracket (pick t j k) ≡ pick t (isBracket j) (isBracket k)
 bracket-pick true j k = refl

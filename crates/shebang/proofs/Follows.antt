@@ -1,4 +1,4 @@
--- The search for the first token that is no trivia, in the facts of the code.
+-- The search for the first token that is not trivia, in the facts of the code.
 use Prim.Native.Nat.{ℕ, _<_}
 use mathlib.Core.Path.{_≡_, refl, sym, ap, _∙_}
 use mathlib.Core.Bool.{Bool, true, false, not}
@@ -11,7 +11,7 @@ use Rattle.ranges.specs.Rules.{Good, flawFrom}
 use Rattle.eaters.specs.Eat.{choose}
 use Rattle.token.specs.declared.LiteralKind.{LiteralKind}
 use Rattle.token.specs.declared.TokenKind.{TokenKind}
-use Rattle.token.specs.Advance.{plain}
+use Rattle.token.specs.Advance.{plain, decided}
 use Rattle.token.specs.Trivia.{isTrivia}
 use Rattle.cursor.specs.declared.Cursor.{Cursor}
 use Rattle.cursor.specs.declared.Kinded.{Kinded}
@@ -21,12 +21,10 @@ use Rattle.cursor.specs.declared.Step.{Step}
 use Rattle.cursor.specs.declared.Step.the-variants.{Got, Over}
 use Rattle.cursor.specs.Cursors.{rest, Seen}
 use Rattle.cursor.specs.Moved.{no-more, left-of}
-use Rattle.cursor.specs.Ran.{kindFrom}
+use Rattle.cursor.specs.Ran.{kindFrom, Begun}
 use Rattle.cursor.proofs.Moves.{char-at, end-at}
-use Rattle.prefixed.specs.Begins.{Begun}
-use Rattle.advance.specs.Arms.{decided}
 use Rattle.token.specs.Lists.{none}
-use Rattle.shebang.specs.Places.{isBracket, bracketed}
+use Rattle.token.specs.Shebang.{isBracket, bracketed}
 use Rattle.shebang.proofs.First.{bracket-none, bracket-step}
 
 -- empty lists are good

@@ -7,17 +7,24 @@ use lib.ListN.{getD, drop}
 use native.Mathlib.Omega.{arith}
 use borrow.Author.Tests.{ne-eqb}
 use Rattle.basics.specs.Choice.{pick}
+use Rattle.refusal.specs.declared.Bad.{Bad}
+use Rattle.refusal.specs.declared.Verdict.{Verdict}
+use Rattle.refusal.specs.declared.Verdict.the-variants as verdict
+use Rattle.refusal.proofs.Handing.{refused-in, fine-in}
 use Rattle.text.specs.Chars.{chars, width}
+use Rattle.text.specs.Verdicts.{textVerdict}
 use Rattle.eaters.specs.Find.{at, nowhere}
 use Rattle.token.specs.Lists.{Lists, none}
-use Rattle.token.specs.Shebang.{lineBytes, shebang}
+use Rattle.token.specs.Shebang.{lineBytes, shebang, bracketed}
 use Rattle.cursor.specs.declared.Cursor.{Cursor}
-use Rattle.cursor.specs.Cursors.{rest, rest-is}
+use Rattle.cursor.specs.Cursors.{rest}
 use Rattle.cursor.specs.Moved.{Moved}
+use Rattle.cursor.proofs.Steps.{rest-at}
 use Rattle.cursor.proofs.Moves.{bumped}
 use Rattle.cursor.proofs.Bytes.{bump-bytes}
-use Rattle.shebang.specs.declared.Shebang.the-variants.{Ends, Absent}
-use Rattle.shebang.specs.Places.{bracketed, Stripped}
+use Rattle.shebang.specs.declared.ShebangAnswer.{ShebangAnswer}
+use Rattle.shebang.specs.declared.ShebangAnswer.the-variants.{Ends, Absent, Refused}
+use Rattle.shebang.specs.Answers.{shebangAt, ShebangEnds, Stripped}
 use Rattle.shebang.proofs.AnyLists.{any-bracket}
 
 -- the clauses of the rule
@@ -39,17 +46,17 @@ marked L cs = ap (λ (t : Bool). pick t nowhere (at (2 + lineBytes cs))) (any-br
 -- from the start of the text
 module _ (s : List ℕ) {a : Cursor} (z : a .at ≡ 0) {c : ℕ} (e : c ≡ getD (rest s a) 0 0) where
   whole : chars s ≡ rest s a
-  whole = sym (rest-is s a ∙ ap (λ (k : ℕ). chars (drop k s)) z)
+  whole = sym (rest-at s a z)
 
-  pub absent-hash : (c ≡ 0x23 → ⊥) → Stripped s Absent
-  absent-hash n = record { place = λ L. sym (ap (shebang L) whole ∙ no-hash L (rest s a) (λ k. n (e ∙ k))) }
+  pub absent-hash : (c ≡ 0x23 → ⊥) → ShebangEnds s Absent
+  absent-hash n = record { place = λ L. ap shebangAt (sym (ap (shebang L) whole ∙ no-hash L (rest s a) (λ k. n (e ∙ k)))) }
 
   module _ (h : c ≡ 0x23) {b : Cursor} (m : Moved s a b (drop 1 (rest s a))) {d : ℕ} (f : d ≡ getD (rest s b) 0 0) where
     hash : chars s ≡ 0x23 ∷ rest s b
     hash = whole ∙ bumped e (omega arith) m ∙ ap (λ (k : ℕ). k ∷ rest s b) h
 
-    pub absent-mark : (d ≡ 0x21 → ⊥) → Stripped s Absent
-    absent-mark n = record { place = λ L. sym (ap (shebang L) hash ∙ no-mark L (rest s b) (λ k. n (f ∙ k))) }
+    pub absent-mark : (d ≡ 0x21 → ⊥) → ShebangEnds s Absent
+    absent-mark n = record { place = λ L. ap shebangAt (sym (ap (shebang L) hash ∙ no-mark L (rest s b) (λ k. n (f ∙ k)))) }
 
     module _ (g : d ≡ 0x21) {o : Cursor} (w : Moved s b o (drop 1 (rest s b))) {u : Bool} (q : u ≡ bracketed none (rest s o)) where
       by-mark : (L : Lists) → shebang L (chars s) ≡ pick u nowhere (at (2 + lineBytes (rest s o)))
@@ -58,8 +65,8 @@ module _ (s : List ℕ) {a : Cursor} (z : a .at ≡ 0) {c : ℕ} (e : c ≡ getD
           ∙ marked L (rest s o)
           ∙ ap (λ (t : Bool). pick t nowhere (at (2 + lineBytes (rest s o)))) (sym q)
 
-      pub absent-bracket : u ≡ true → Stripped s Absent
-      absent-bracket t = record { place = λ L. sym (rw t at (by-mark L)) }
+      pub absent-bracket : u ≡ true → ShebangEnds s Absent
+      absent-bracket t = record { place = λ L. ap shebangAt (sym (rw t at (by-mark L))) }
 
       two : o .at ≡ 2
       unfolding width
@@ -68,5 +75,13 @@ module _ (s : List ℕ) {a : Cursor} (z : a .at ≡ 0) {c : ℕ} (e : c ≡ getD
           let j : width d ≡ 1 = ap width g in
           omega (arith, z, bump-bytes e (omega arith) m, bump-bytes f (omega arith) w, i, j)
 
-      pub ends-line : {p : Cursor} {n : ℕ} → u ≡ false → p .at ≡ o .at + lineBytes (rest s o) → n ≡ p .at → Stripped s (Ends n)
-      ends-line t l y = record { place = λ L. ap at (y ∙ l ∙ ap (λ (k : ℕ). k + lineBytes (rest s o)) two) ∙ sym (rw t at (by-mark L)) }
+      pub ends-line : {p : Cursor} {n : ℕ} → u ≡ false → p .at ≡ o .at + lineBytes (rest s o) → n ≡ p .at → ShebangEnds s (Ends n)
+      ends-line t l y = record { place = λ L. ap shebangAt (ap at (y ∙ l ∙ ap (λ (k : ℕ). k + lineBytes (rest s o)) two) ∙ sym (rw t at (by-mark L))) }
+
+-- the call, by what the check of the text says
+module _ (s : List ℕ) {v : Verdict} (e : v ≡ textVerdict s) where
+  pub stripped : {x : ShebangAnswer} → v ≡ verdict.Fine → ShebangEnds s x → Stripped s x
+  stripped k g = record { answer = λ L. fine-in Refused e k (g .place L) }
+
+  pub refused : {bad : Bad} → v ≡ verdict.Refused bad → Stripped s (Refused bad)
+  refused k = record { answer = λ L. refused-in Refused e _ k }

@@ -4,22 +4,26 @@
 ghost use mathlib.Core.Path.{_≡_};
 ghost use Prim.Native.Nat.{_+_};
 ghost use Rattle.token.specs.Advance.{plain};
-ghost use Rattle.token.specs.Shebang.{lineBytes};
+ghost use Rattle.token.specs.Shebang.{lineBytes, isBracket, bracketed};
 ghost use Rattle.cursor.specs.Cursors.{rest};
-ghost use Rattle.prefixed.specs.Begins.{Begun};
+ghost use Rattle.cursor.specs.Ran.{Begun};
 ghost use Rattle.token.specs.Lists.{none};
-ghost use Rattle.shebang.specs.Places.{isBracket, bracketed, Stripped};
+ghost use Rattle.shebang.specs.Answers.{ShebangEnds, Stripped, shebangNumbers};
 use cursor::Cursor;
 use cursor::Kinded;
 use cursor::Scanned;
 use cursor::Step;
+use refusal::Bad;
+use refusal::Numbers;
+use refusal::Verdict;
 use text::CodePoint;
 use token::TokenKind;
 
-// Where a shebang ends, in bytes, if there is one.
-pub enum Shebang {
+// What `strip_shebang` says: where the shebang ends, in bytes, that there is none, or a refusal (1, 2).
+pub enum ShebangAnswer {
     Ends(usize),
     Absent,
+    Refused(Bad),
 }
 
 // Whether a token is an opening bracket.
@@ -40,7 +44,7 @@ fn token_after(text: &[u8], c: CodePoint, from: Cursor) -> Scanned
     advance::advance_token(text, c, from, false, &empty, &empty, &empty)
 }
 
-// Whether the first token that is no trivia is an opening bracket.
+// Whether the first token that is not trivia is an opening bracket.
 fn bracket_follows(text: &[u8], from: Cursor) -> bool
     ensures { λ r. ⌜ r ≡ bracketed none (rest (now (text .entry)) from) ⌝ }
 {
@@ -54,7 +58,7 @@ fn bracket_follows(text: &[u8], from: Cursor) -> bool
         let Kinded::Plain(kind) = kinded else {
             return false;
         };
-        if !trivia::is_trivia(kind) {
+        if !kinds::is_trivia(kind) {
             return is_bracket(kind);
         }
         cur = scanned.next;
@@ -82,22 +86,43 @@ fn line_end(text: &[u8], from: Cursor) -> Cursor
     }
 }
 
-// Where a shebang ends: a text that begins with `#!` has one, unless the first token after it that is no trivia is `[`.
-pub fn shebang_end(text: &[u8]) -> Shebang
-    ensures { λ r. ⌜ Stripped (now (text .entry)) r ⌝ }
+// Where a shebang ends: a text that begins with `#!` has one, unless the first token after it that is not trivia is `[`.
+fn shebang_end(text: &[u8]) -> ShebangAnswer
+    ensures { λ r. ⌜ ShebangEnds (now (text .entry)) r ⌝ }
 {
     let start = Cursor::new(0);
     if start.first(text) != 0x23 {
-        return Shebang::Absent;
+        return ShebangAnswer::Absent;
     }
     let hash = start.bump(text);
     if hash.first(text) != 0x21 {
-        return Shebang::Absent;
+        return ShebangAnswer::Absent;
     }
     let mark = hash.bump(text);
     if bracket_follows(text, mark) {
-        return Shebang::Absent;
+        return ShebangAnswer::Absent;
     }
     let end = line_end(text, mark);
-    Shebang::Ends(end.place())
+    ShebangAnswer::Ends(end.place())
+}
+
+// PUBLIC. Where a shebang ends: 000's `strip_shebang`. Refusals 1 and 2 in this order.
+pub fn strip_shebang(text: &[u8]) -> ShebangAnswer
+    ensures { λ r. ⌜ Stripped (now (text .entry)) r ⌝ }
+{
+    match text::check_text(text) {
+        Verdict::Fine => shebang_end(text),
+        Verdict::Refused(bad) => ShebangAnswer::Refused(bad),
+    }
+}
+
+// The answer by number.
+pub fn shebang_numbers(answer: ShebangAnswer) -> Numbers
+    ensures { λ r. ⌜ r ≡ shebangNumbers answer ⌝ }
+{
+    match answer {
+        ShebangAnswer::Ends(at) => refusal::done(at, 0),
+        ShebangAnswer::Absent => refusal::done(0, 0),
+        ShebangAnswer::Refused(bad) => refusal::bad_numbers(bad),
+    }
 }

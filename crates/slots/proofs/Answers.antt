@@ -6,11 +6,11 @@ use mathlib.Core.List.{List}
 use Rattle.token.specs.Lists.{Lists}
 use Rattle.token.specs.Tokens.{records}
 use Rattle.plan.specs.declared.ListAnswer.{ListAnswer}
-use Rattle.slots.specs.Answers.{held, Slotted}
+use Rattle.slots.specs.Answers.{slotsAfter, Slotted}
 
 module _ {limit : ℕ} {s before after later : List ℕ} {L : Lists} {on : Bool} {r q : ListAnswer} (f : Slotted limit s L on before after r) (g : Slotted limit s L on before later q) where
   pub one-answer : r ≡ q
   one-answer = f .answer ∙ sym (g .answer)
 
   pub one-run : after ≡ later
-  one-run = f .holds ∙ ap (λ (x : ListAnswer). held x (records L on s) before) one-answer ∙ sym (g .holds)
+  one-run = f .holds ∙ ap (λ (x : ListAnswer). slotsAfter x (records L on s) before) one-answer ∙ sym (g .holds)

@@ -11,14 +11,15 @@ use Rattle.basics.specs.Choice.{pick}
 use Rattle.refusal.specs.declared.Bad.{Bad}
 use Rattle.refusal.specs.declared.Verdict.{Verdict}
 use Rattle.refusal.specs.declared.Verdict.the-variants as verdict
+use Rattle.refusal.specs.Order.{refusedOr}
 use Rattle.token.specs.Lists.{Lists}
 use Rattle.token.specs.Tokens.{records}
 use Rattle.lexer.specs.Answers.{tokenVerdict}
-use Rattle.lexer.proofs.Checks.{step-ready, text-well}
+use Rattle.lexer.proofs.Checks.{fine-checked}
 use Rattle.plan.specs.declared.ListAnswer.{ListAnswer}
 use Rattle.plan.specs.declared.ListAnswer.the-variants.{Listed, Slots, Refused}
 use Rattle.plan.specs.declared.Plan.{Plan}
-use Rattle.plan.specs.Answers.{listOf, listAnswer}
+use Rattle.plan.specs.Answers.{listAnswer}
 use Rattle.plan.specs.Plans.{planOf}
 use Rattle.slots.specs.Numbers.{numbersOf}
 use Rattle.slots.specs.Fills.{Filling, Filled}
@@ -40,7 +41,7 @@ record Room (v : Verdict) (total slots n : ℕ) : Type 0 where
   room : total ≤ slots
   same : total ≡ n
 
-roomy : (total slots n : ℕ) (v : Verdict) (t : Bool) → leb total slots ≡ t → listOf v (pick t (Listed total) (Slots total)) ≡ Listed n → Room v total slots n
+roomy : (total slots n : ℕ) (v : Verdict) (t : Bool) → leb total slots ≡ t → refusedOr Refused v (pick t (Listed total) (Slots total)) ≡ Listed n → Room v total slots n
 roomy total slots n verdict.Fine true q e = record { fine = refl; room = leb-true total slots q; same = ap tokensIn e }
 roomy total slots n verdict.Fine false q e = absurd (true≢false (sym (ap isListed e)))
 roomy total slots n (verdict.Refused bad) t q e = absurd (true≢false (sym (ap isListed e)))
@@ -54,16 +55,7 @@ module _ (limit : ℕ) (s : List ℕ) (L : Lists) (on : Bool) (before : List ℕ
     done = roomy (length (records L on s)) (length before / 4) n (tokenVerdict limit s L) (leb (length (records L on s)) (length before / 4)) refl (sym answered ∙ k)
 
     pub fill-ready : Filling L s on before
-    fill-ready =
-        let r = step-ready limit s (L .starts) (L .continues) (L .emoji) refl (done .fine) in
-        record {
-          well = text-well limit s (L .starts) (L .continues) (L .emoji) refl (done .fine);
-          fits = r .0;
-          starts = r .1 .0;
-          continues = r .1 .1;
-          emoji = r .1 .2;
-          room = omega (arith, done .room);
-        }
+    fill-ready = record { checked = fine-checked limit s L refl (done .fine); room = omega (arith, done .room) }
 
     pub listed-in : {after : List ℕ} → Filled L s on before after → Slotted limit s L on before after (Listed n)
     listed-in w = record { answer = sym k ∙ answered; holds = w ∙ ap (λ (j : ℕ). numbersOf (records L on s) ++ drop (4 * j) before) (done .same) }

@@ -1,16 +1,16 @@
--- Four numbers put one behind the other.
+-- Four numbers put one after the other.
 use Prim.Native.Nat.{ℕ, _+_, _≤_}
 use mathlib.Core.Path.{_≡_, refl}
 use mathlib.Core.List.{List, [], _∷_}
 use lib.ListN.{length, set, length-set}
 use native.Mathlib.Omega.{arith}
 use Rattle.token.specs.declared.Token.{Token}
-use Rattle.codes.specs.Codes.{kindCode, suffixOf}
+use Rattle.kinds.specs.Codes.{kindCode, suffixOf}
 use Rattle.puts.specs.Put.{Put}
 use Rattle.puts.proofs.Puts.{one-put, put-then}
 use Rattle.slots.specs.Numbers.{fourOf}
 
--- one number at a place that is told otherwise
+-- one number at a place that is given by an equation
 one-at : {out : List ℕ} {m b : ℕ} (n : ℕ) (k : ℕ) → n ≡ m → m + 1 ≡ k → m + 1 ≤ length out → Put (b ∷ []) out n (set out m b) k
 one-at {out} {m} {b} n k e f h = rw (e, ← f) (one-put h)
 

@@ -13,12 +13,12 @@ use Rattle.plan.specs.Answers.{listAnswer}
 use Rattle.slots.specs.Numbers.{numbersOf}
 
 -- THE CONTENTS: on success the numbers of the tokens, and past them what was there; a refusal changes nothing
-abbrev pub held : ListAnswer → (tokens : List Token) (before : List ℕ) → List ℕ
-held (Listed n) tokens before = numbersOf tokens ++ drop (4 * n) before
-held (Slots n) tokens before = before
-held (Refused bad) tokens before = before
+abbrev pub slotsAfter : ListAnswer → (tokens : List Token) (before : List ℕ) → List ℕ
+slotsAfter (Listed n) tokens before = numbersOf tokens ++ drop (4 * n) before
+slotsAfter (Slots n) tokens before = before
+slotsAfter (Refused bad) tokens before = before
 
 -- THE PROMISE of the call: the list call's answer, four numbers being a slot, and the run from before to after
 pub record Slotted (limit : ℕ) (s : List ℕ) (L : Lists) (on : Bool) (before after : List ℕ) (r : ListAnswer) : Type 0 where
   pub answer : r ≡ listAnswer limit s L on (length before / 4)
-  pub holds : after ≡ held r (records L on s) before
+  pub holds : after ≡ slotsAfter r (records L on s) before

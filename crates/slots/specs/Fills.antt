@@ -4,11 +4,10 @@ use mathlib.Core.Path.{_≡_}
 use mathlib.Core.Bool.{Bool}
 use mathlib.Core.List.{List, _++_}
 use lib.ListN.{length, drop}
-use Rattle.text.specs.Chars.{WellFormed}
-use Rattle.ranges.specs.Rules.{Good}
 use Rattle.token.specs.declared.Token.{Token}
 use Rattle.token.specs.Lists.{Lists}
 use Rattle.token.specs.Tokens.{records}
+use Rattle.lexer.specs.Checked.{Checked}
 use Rattle.slots.specs.Numbers.{numbersOf}
 
 -- there is room at n for four numbers, and the start is one of them
@@ -18,11 +17,7 @@ pub record Fitting (slots : List ℕ) (n : ℕ) (t : Token) : Type 0 where
 
 -- the text and the lists were checked, and there is room for every token
 pub record Filling (L : Lists) (s : List ℕ) (on : Bool) (slots : List ℕ) : Type 0 where
-  pub well : WellFormed s
-  pub fits : length s ≤ 4294967295
-  pub starts : Good (L .starts)
-  pub continues : Good (L .continues)
-  pub emoji : Good (L .emoji)
+  pub checked : Checked s L
   pub room : 4 * length (records L on s) ≤ length slots
 
 -- the numbers of the tokens are in the first slots, and the rest is as it was

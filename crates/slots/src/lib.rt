@@ -29,8 +29,8 @@ fn put_token(slots: &mut [u32], n: usize, token: Token) -> usize
     ensures { λ r. ⌜ Put (fourOf token) (now (slots .entry)) n (now (slots .exit)) r ⌝ }
 {
     let kind = token.kind;
-    let code = codes::kind_code(kind);
-    let suffix = codes::suffix_of(kind);
+    let code = kinds::kind_code(kind);
+    let suffix = kinds::suffix_of(kind);
     put_four(slots, n, code, suffix, token.len, token.start as u32)
 }
 
@@ -40,14 +40,11 @@ fn fill(text: &[u8], starts: &[u32], continues: &[u32], emoji: &[u32], on: bool,
     ensures { λ r. ⌜ Filled (lent (now (starts .entry)) (now (continues .entry)) (now (emoji .entry))) (now (text .entry)) on (now (slots .entry)) (now (slots .exit)) ⌝ }
 {
     let mut used: usize = 0;
-    let mut from: usize = 0;
-    let mut flag = on;
-    while from < text.len() {
-        let scan = lexer::step(text, from, flag, starts, continues, emoji);
+    let mut scan = lexer::start(on);
+    while scan.next < text.len() {
+        scan = lexer::step(text, starts, continues, emoji, scan);
         let token = scan.token;
         used = put_token(slots, used, token);
-        flag = scan.on;
-        from = scan.next;
     }
 }
 

@@ -1,3 +1,7 @@
 mod Bounds
+mod Guesses
 mod Checks
 mod Strings
+mod Calls
+mod Numbering
+pub mod Answers

@@ -1,2 +1,3 @@
-pub mod Bounds
-pub mod Answers
+pub mod Guesses
+pub mod RawChecks
+pub mod Guards

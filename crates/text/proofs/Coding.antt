@@ -51,7 +51,7 @@ module _ (c : ℕ) where
   unfolding encodeOne
   encode-4 l = rw (le-ltb c 0x80 (omega arith), le-ltb c 0x800 (omega arith), le-ltb c 0x10000 l)
 
--- what a decoded character tells
+-- what a decoded character says
 pub record Fact (s : List ℕ) (c w : ℕ) : Type 0 where
   pub some : 1 ≤ w
   pub wide : width c ≡ w

@@ -6,4 +6,6 @@ pub mod Texts
 pub mod Stops
 pub mod Answers
 pub mod Places
+pub mod Runs
 pub mod Positions
+pub mod Verdicts

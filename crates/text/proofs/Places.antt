@@ -14,6 +14,7 @@ use Rattle.text.specs.declared.Decoded.the-variants.{Char, End, Ill}
 use Rattle.text.specs.Utf8.{lead, decoded}
 use Rattle.text.specs.Chars.{chars, width, size}
 use Rattle.text.specs.Verdicts.{utf8Verdict}
+use Rattle.text.proofs.Rows.{row-00}
 use Rattle.text.proofs.Coding.{Fact}
 use Rattle.text.proofs.Texts.{stepped, told}
 
@@ -24,6 +25,9 @@ at-end s at h = rw (drop-of-length-le s h)
 pub at-byte : (s : List ℕ) (at : ℕ) {a : ℕ} {r : Decoded} → at < length s → a ≡ getD s at 0 → r ≡ lead a (drop (at + 1) s) → r ≡ decoded (drop at s)
 unfolding decoded
 at-byte s at h e k = rw (drop-cons s at 0 h, ← e, ← add-one at) k
+
+pub at-ascii : (s : List ℕ) (at : ℕ) {a : ℕ} → at < length s → a ≡ getD s at 0 → a < 0x80 → Char a 1 ≡ decoded (drop at s)
+at-ascii s at {a} h e l = at-byte s at h e (sym (row-00 a (drop (at + 1) s) (omega arith) (omega arith)))
 
 -- a character at a position: it lies within the text, and the text's characters from there on are it and those past it
 module _ (s : List ℕ) (at : ℕ) {d : Decoded} (e : d ≡ decoded (drop at s)) {c w : ℕ} (k : d ≡ Char c w) where

@@ -1,11 +1,11 @@
--- Positions: a boundary parts the characters, and the byte there tells it.
+-- Positions: a boundary separates the characters, and the byte there shows it.
 use Prim.Native.Nat.{ℕ, _+_, _-_, _≤_, _<_}
 use mathlib.Core.Path.{_≡_, refl, sym, ap, subst, _∙_}
 use mathlib.Core.List.{List, [], _∷_, _++_}
 use mathlib.Core.Logic.{_⊎_, inl, inr, ⊎-elim}
 use mathlib.Core.Bool.{Bool, true, false, not}
 use borrow.Author.Tests.{eq-eqb, ne-eqb, lt-ltb, le-ltb, le-leb, lt-leb, eqb-true, leb-true}
-use lib.Dec.{eqb, leb}
+use lib.Dec.{eqb, leb, ltb}
 use lib.ListN.{length, getD, drop, length-drop}
 use lib.Seq.{getD-drop, drop-drop}
 use native.Mathlib.Omega.{arith}
@@ -59,7 +59,7 @@ boundary-parts = by-chars (λ (s : List ℕ). (at : ℕ) → onBoundary s at ≡
         let k : drop (at - w) (drop w s) ≡ drop at s = drop-drop (at - w) w s ∙ ap (λ (m : ℕ). drop m s) j in
         record { before = c ∷ p .before; joined = ap (λ (l : List ℕ). c ∷ l) (ap (λ (t : List ℕ). p .before ++ chars t) (sym k) ∙ p .joined) ∙ sym n; bytes = rw (f .wide, p .bytes) j }
 
--- the first byte of a character is no tail, and the others are
+-- the first byte of a character is not a tail, and the others are
 record Shape (s : List ℕ) (w : ℕ) : Type 0 where
   first : within 0x80 0xBF (getD s 0 0) ≡ false
   others : (k : ℕ) → 0 < k → k < w → within 0x80 0xBF (getD s k 0) ≡ true
@@ -94,24 +94,36 @@ shape s e = subst (λ (d : Decoded). ShapeOf s d) e (shape-of (view s))
 
 -- the byte at a position, by where the position is
 module _ (s : List ℕ) (at : ℕ) where
-  here-end : at ≡ length s → startsHere s at ≡ true
+  pub here-end : at ≡ length s → true ≡ startsHere s at
   unfolding startsHere
-  here-end h = rw (eq-eqb at (length s) h)
+  here-end h = sym (rw (eq-eqb at (length s) h))
 
-  here-past : length s < at → startsHere s at ≡ false
+  pub here-past : length s < at → false ≡ startsHere s at
   unfolding startsHere
-  here-past h = rw (ne-eqb at (length s) (λ e. omega arith), le-ltb at (length s) (omega arith))
+  here-past h = sym (rw (ne-eqb at (length s) (λ e. omega arith), le-ltb at (length s) (omega arith)))
 
-  here-byte : at < length s → startsHere s at ≡ not (within 0x80 0xBF (getD s at 0))
+  here-byte : at < length s → not (within 0x80 0xBF (getD s at 0)) ≡ startsHere s at
   unfolding startsHere
-  here-byte h = rw (ne-eqb at (length s) (λ e. omega arith), lt-ltb at (length s) h)
+  here-byte h = sym (rw (ne-eqb at (length s) (λ e. omega arith), lt-ltb at (length s) h))
+
+  -- the same as the code tests it: not the end and not past it, then the byte
+  module _ (n : at ≡ length s → ⊥) (l : at ≤ length s) {b : ℕ} (e : b ≡ getD s at 0) where
+    here-tail : not (within 0x80 0xBF b) ≡ startsHere s at
+    here-tail = ap (λ (x : ℕ). not (within 0x80 0xBF x)) e ∙ here-byte (omega arith)
+
+    pub here-low : b < 0x80 → true ≡ startsHere s at
+    here-low h = sym (ap not (under-within 0x80 0xBF b h)) ∙ here-tail
+
+    pub here-high : 0x80 ≤ b → ltb 0xBF b ≡ startsHere s at
+    here-high h = ⊎-elim (λ k. lt-ltb 0xBF b k ∙ sym (ap not (over-within 0x80 0xBF b (omega arith) k)))
+        (λ k. le-ltb 0xBF b k ∙ sym (ap not (inside-within 0x80 0xBF b h k))) (below-or-not 0xBF b) ∙ here-tail
 
 -- past a character of w bytes nothing changes
 here-on : (s : List ℕ) (w at : ℕ) → w ≤ at → w ≤ length s → startsHere (drop w s) (at - w) ≡ startsHere s at
 here-on s w at l r =
     let n : length (drop w s) ≡ length s - w = length-drop w s in
-    ⊎-elim (λ h. here-byte (drop w s) (at - w) (omega arith) ∙ ap (λ (b : ℕ). not (within 0x80 0xBF b)) (getD-drop w s (at - w) 0 ∙ ap (λ (k : ℕ). getD s k 0) (omega arith)) ∙ sym (here-byte s at h))
-    (λ h. ⊎-elim (λ k. here-past (drop w s) (at - w) (omega arith) ∙ sym (here-past s at k)) (λ k. here-end (drop w s) (at - w) (omega arith) ∙ sym (here-end s at (omega arith))) (below-or-not (length s) at))
+    ⊎-elim (λ h. sym (here-byte (drop w s) (at - w) (omega arith)) ∙ ap (λ (b : ℕ). not (within 0x80 0xBF b)) (getD-drop w s (at - w) 0 ∙ ap (λ (k : ℕ). getD s k 0) (omega arith)) ∙ here-byte s at h)
+    (λ h. ⊎-elim (λ k. sym (here-past (drop w s) (at - w) (omega arith)) ∙ here-past s at k) (λ k. sym (here-end (drop w s) (at - w) (omega arith)) ∙ here-end s at (omega arith)) (below-or-not (length s) at))
     (below-or-not at (length s))
 
 edge-in : (c : ℕ) (cs : List ℕ) (at : ℕ) → 0 < at → at < width c → edge (c ∷ cs) at ≡ false
@@ -125,18 +137,18 @@ edge-on c cs at p q = rw (ne-eqb at 0 (λ e. omega arith), le-leb (width c) at q
 nothing : (s : List ℕ) → length s ≡ 0 → (at : ℕ) → edge [] at ≡ startsHere s at
 unfolding edge
 nothing s n at =
-    ⊎-elim (λ h. rw (eq-eqb at 0 (omega arith)) (sym (here-end s at (omega arith))))
-    (λ h. rw (ne-eqb at 0 (λ e. omega arith)) (sym (here-past s at (omega arith)))) (below-or-not at 1)
+    ⊎-elim (λ h. rw (eq-eqb at 0 (omega arith)) (here-end s at (omega arith)))
+    (λ h. rw (ne-eqb at 0 (λ e. omega arith)) (here-past s at (omega arith))) (below-or-not at 1)
 
 character : (s : List ℕ) (c w : ℕ) → Shape s w → Fact s c w → (at : ℕ) → ((k : ℕ) → edge (chars (drop w s)) k ≡ startsHere (drop w s) k) → edge (c ∷ chars (drop w s)) at ≡ startsHere s at
 character s c w g f at ih =
     let q : width c ≡ w = f .wide in
-    ⊎-elim (λ h. let z : at ≡ 0 = omega arith in rw z (edge-start (c ∷ chars (drop w s)) ∙ sym (here-byte s 0 (omega (arith, f .room, f .some)) ∙ ap not (g .first))))
-    (λ h. ⊎-elim (λ k. edge-in c _ at h (omega arith) ∙ sym (here-byte s at (omega (arith, f .room)) ∙ ap not (g .others at h k)))
+    ⊎-elim (λ h. let z : at ≡ 0 = omega arith in rw z (edge-start (c ∷ chars (drop w s)) ∙ sym (ap not (g .first)) ∙ here-byte s 0 (omega (arith, f .room, f .some))))
+    (λ h. ⊎-elim (λ k. edge-in c _ at h (omega arith) ∙ sym (ap not (g .others at h k)) ∙ here-byte s at (omega (arith, f .room)))
     (λ k. edge-on c _ at h (omega arith) ∙ ap (λ (m : ℕ). edge (chars (drop w s)) (at - m)) q ∙ ih (at - w) ∙ here-on s w at k (f .room)) (below-or-not at w))
     (below-or-not at 1)
 
--- IN A WELL-FORMED TEXT a position is on a boundary exactly where it is the end or its byte is no tail
+-- IN A WELL-FORMED TEXT a position is on a boundary exactly where it is the end or its byte is not a tail
 pub boundary-byte : (s : List ℕ) → WellFormed s → (at : ℕ) → onBoundary s at ≡ startsHere s at
 boundary-byte = by-chars (λ (s : List ℕ). WellFormed s → (at : ℕ) → onBoundary s at ≡ startsHere s at)
     (λ s n v at. rw n (nothing s (sym v ∙ ap size n) at))

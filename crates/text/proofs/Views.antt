@@ -33,7 +33,7 @@ by-byte P low high (b ∷ s) f i g =
 tail : {b : ℕ} → Within 0x80 0xBF b → Tail b
 tail w = record { least = w .least; most = w .most }
 
--- the rows of one width: what their first two bytes tell of the value
+-- the rows of one width: what their first two bytes say of the value
 view-two : (a : ℕ) (s : List ℕ) → Within 0xC2 0xDF a → View (a ∷ s) (utf8.two a 0x80 0xBF s)
 unfolding utf8.two
 view-two a s w = by-byte (λ (t : List ℕ) (d : Decoded). View (a ∷ t) d) 0x80 0xBF s _ (λ _. ill) (λ b t wb. two (w .least) (w .most) (tail wb))

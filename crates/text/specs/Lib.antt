@@ -1,4 +1,5 @@
 pub mod Utf8
+pub mod Ascii
 pub mod Next
 pub mod Chars
 pub mod Verdicts

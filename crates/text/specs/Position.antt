@@ -17,6 +17,6 @@ edge (c ∷ cs) at = or (eqb at 0) (and (leb (width c) at) (edge cs (at - width 
 abbrev pub onBoundary : List ℕ → (at : ℕ) → Bool
 onBoundary s at = edge (chars s) at
 
--- the same as the bytes tell it, in a well-formed text: the end, or a byte that is no UTF8-tail
+-- the same by the bytes, in a well-formed text: the end, or a byte that is not a UTF8-tail
 unfoldable pub startsHere : List ℕ → (at : ℕ) → Bool
 startsHere s at = or (eqb at (length s)) (and (ltb at (length s)) (not (within 0x80 0xBF (getD s at 0))))

@@ -1,9 +1,12 @@
 // UTF-8 by RFC 3629: the character at a position of any bytes, and the verdict on a whole text.
 ghost use mathlib.Core.Path.{_≡_};
+ghost use mathlib.Core.Bool.{true};
 ghost use Prim.Native.Nat.{_+_, _≤_, _<_};
 ghost use lib.ListN.{length, drop};
+ghost use Rattle.text.specs.Ascii.{AsciiRun};
 ghost use Rattle.text.specs.Utf8.{value2, value3, value4, two, three, four, lead, decoded};
 ghost use Rattle.text.specs.Next.{next, Lead, Second, Tail};
+ghost use Rattle.text.specs.Position.{startsHere};
 ghost use Rattle.text.specs.Verdicts.{tooLong, utf8Verdict, textVerdict};
 use refusal::Bad;
 use refusal::Verdict;
@@ -19,12 +22,13 @@ pub enum Decoded {
 }
 
 // A byte that had to lie in a range: it does, or there is none that does.
-pub enum Next {
+enum Next {
     Byte(u32),
     Other,
 }
 
-fn wide(x: u8) -> u32
+// A byte as a number.
+pub fn wide(x: u8) -> u32
     ensures { λ r. ⌜ (r ≡ x) × (r < 256) ⌝ }
 {
     x as u32
@@ -130,14 +134,35 @@ fn decode_lead(text: &[u8], at: usize, a: u32) -> Decoded
     }
 }
 
-// The character at a position of any bytes. Past the end there is the end.
+// The character at a position of any bytes. Past the end there is the end. The row of ASCII is answered here: most bytes are in it.
 pub fn decode(text: &[u8], at: usize) -> Decoded
     ensures { λ r. ⌜ r ≡ decoded (drop at (now (text .entry))) ⌝ }
 {
     if text.len() <= at {
         return Decoded::End;
     }
-    decode_lead(text, at + 1, wide(text[at]))
+    let a = wide(text[at]);
+    if a < 0x80 {
+        return Decoded::Char(a, 1);
+    }
+    decode_lead(text, at + 1, a)
+}
+
+// Whether a position of a well-formed text is the end, or the first byte of a character.
+pub fn starts_here(text: &[u8], at: usize) -> bool
+    ensures { λ r. ⌜ r ≡ startsHere (now (text .entry)) at ⌝ }
+{
+    if at == text.len() {
+        return true;
+    }
+    if text.len() < at {
+        return false;
+    }
+    let b = text[at];
+    if b < 0x80 {
+        return true;
+    }
+    0xBF < b
 }
 
 // The check of a text's length: refusal 1.
@@ -151,12 +176,35 @@ pub fn check_length(text: &[u8]) -> Verdict
     }
 }
 
-// The check of a text's bytes: refusal 2.
+// Whether the next eight bytes are there and all of them are ASCII: joined, they are asked at once. It looks at every eighth position alone,
+// so that a text of other letters pays little; where it says no, nothing is promised.
+fn eight_ascii(text: &[u8], at: usize) -> bool
+    requires { ⌜ at ≤ length (now text) ⌝ }
+    ensures { λ r. ⌜ (r ≡ true → AsciiRun (now (text .entry)) at 8) ⌝ }
+{
+    if at % 8 != 0 {
+        return false;
+    }
+    if text.len() - at < 8 {
+        return false;
+    }
+    let mut bits: u8 = 0;
+    for i in 0..8 {
+        bits |= text[at + i];
+    }
+    bits < 0x80
+}
+
+// The check of a text's bytes: refusal 2. Eight bytes of ASCII are taken in one turn, and else one character.
 pub fn check_utf8(text: &[u8]) -> Verdict
     ensures { λ r. ⌜ r ≡ utf8Verdict (now (text .entry)) ⌝ }
 {
     let mut at = 0;
     loop {
+        if eight_ascii(text, at) {
+            at += 8;
+            continue;
+        }
         match decode(text, at) {
             Decoded::Char(_, w) => at += w,
             Decoded::End => return Verdict::Fine,

@@ -1,3 +1,5 @@
 pub mod Rows
 pub mod Takes
 pub mod Cover
+pub mod Shapes
+pub mod Says

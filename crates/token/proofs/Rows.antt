@@ -15,7 +15,7 @@ use Rattle.eaters.specs.Look.{ifAt, ifTwo, ifBegins}
 use Rattle.eaters.specs.Scan.{scan, firstWith}
 use Rattle.eaters.specs.Find.{at, nowhere, find}
 use Rattle.token.specs.declared.DocStyle.the-variants.{Outer, Inner, Plain}
-use Rattle.token.specs.declared.HashCount.the-variants.{NoCount}
+use Rattle.token.specs.declared.HashCount.the-variants.{Of, NoCount}
 use Rattle.token.specs.declared.Base.the-variants.{Binary, Decimal, Hexadecimal}
 use Rattle.token.specs.declared.LiteralKind.the-variants as literal
 use Rattle.token.specs.declared.LiteralKind.the-variants.{Int, Float, Char, Str}
@@ -31,6 +31,7 @@ use Rattle.token.specs.Frontmatter.{lastSearch, body}
 use Rattle.token.specs.Advance.{advance}
 use Rattle.token.specs.Tokens.{tokensAfter, records}
 use Rattle.token.specs.Trivia.{isTrivia}
+use Rattle.token.specs.Broken.{isBroken}
 use Rattle.token.specs.Guarded.{guardedString}
 use Rattle.token.specs.RawCheck.{guess, rawCheck}
 use Rattle.token.specs.Shebang.{lineBytes, shebang}
@@ -113,8 +114,14 @@ pub shebang-rows : (shebang none (35 ∷ 33 ∷ 91 ∷ 97 ∷ 93 ∷ []) ≡ now
 unfolding byte two three four lead decoded charsAfter width inPairs isWhitespace isHorizontalWhitespace letter idStart idContinue emojiChar give eat eatAny while whileMost _>>=_ texted choose ifAt ifTwo ifBegins scan firstWith find lastSearch body advance tokensAfter lineBytes shebang
 shebang-rows = (refl, (refl, refl))
 
--- trivia (document 01, "The key"): whitespace, and comments whose doc style is none; a doc comment of either style is none
+-- trivia (document 01, "The key"): whitespace, and comments whose doc style is none; a doc comment of either style is not trivia
 pub trivia-rows :
     (isTrivia Whitespace ≡ true) × (isTrivia (LineComment Plain) ≡ true) × (isTrivia (BlockComment Plain true) ≡ true) × (isTrivia (LineComment Outer) ≡ false)
     × (isTrivia (LineComment Inner) ≡ false) × (isTrivia (BlockComment Outer true) ≡ false) × (isTrivia (BlockComment Inner true) ≡ false)
 trivia-rows = (refl, refl, refl, refl, refl, refl, refl)
+
+-- broken (document 01, "The key"): a literal that does not end or has no hash count, and a block comment that does not end
+pub broken-rows :
+    (isBroken (Literal (Char false) 2) ≡ true) × (isBroken (Literal (Char true) 3) ≡ false) × (isBroken (Literal (literal.RawStr NoCount) 4) ≡ true)
+    × (isBroken (Literal (literal.RawStr (Of 0)) 4) ≡ false) × (isBroken (BlockComment Plain false) ≡ true) × (isBroken (BlockComment Plain true) ≡ false)
+broken-rows = (refl, refl, refl, refl, refl, refl)

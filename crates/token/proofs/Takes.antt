@@ -2,13 +2,11 @@
 use Prim.Native.Nat.{ℕ, zero, suc, _+_, _≤_, zero-le, suc-le-suc}
 use mathlib.Core.Path.{_≡_, refl, ap}
 use mathlib.Core.List.{List, [], _∷_}
-use mathlib.Core.Bool.{Bool, true, false, not}
+use mathlib.Core.Bool.{Bool, true, false}
 use lib.ListN.{length, drop, length-drop}
 use native.Mathlib.Omega.{arith}
-use Rattle.basics.specs.Choice.{and, or}
 use Rattle.basics.proofs.Choices.{by-pick}
 use Rattle.classes.specs.Identifiers.{letter, digit, idStart}
-use Rattle.classes.specs.Whitespace.{isHorizontalWhitespace}
 use Rattle.eaters.specs.Eat.{Eater, nothing, while}
 use Rattle.eaters.specs.Look.{begins}
 use Rattle.eaters.specs.Find.{Place, at, nowhere, further, orElse}
@@ -24,16 +22,16 @@ use Rattle.token.specs.Names.{is, 'newline', 'double', '#', 'single', '-
 use Rattle.token.specs.Lists.{Lists, starting, going, smiling}
 use Rattle.token.specs.Literals.{identifier, Body, literal}
 use Rattle.token.specs.Whitespace.{whitespace}
-use Rattle.token.specs.Comments.{blockTurn, slash}
+use Rattle.token.specs.Comments.{inLine, blockTurn, slash}
 use Rattle.token.specs.Words.{invalidIdent, prefixMark, identOrUnknownPrefix}
 use Rattle.token.specs.Quotes.{doubleTurn, doubleQuoted, singleTurn, singleQuoted}
 use Rattle.token.specs.RawStrings.{rawString}
 use Rattle.token.specs.Numbers.{decimals, hexadecimals, hexDigit, exponent, maybeExponent, fraction, based, decimal, number}
 use Rattle.token.specs.Lifetimes.{character, lifetimeRest, lifetime, naming, lifetimeOrChar}
-use Rattle.token.specs.Prefixed.{hashOrQuote, afterR, afterK, afterC, afterB}
-use Rattle.token.specs.Punctuation.{guardMark}
-use Rattle.token.specs.Frontmatter.{lineRest, dashes, useLine, docLine, attributeLine, first, lastSearch, recovery, lineAt, closed, body, infostring, frontmatter}
-use Rattle.token.specs.Advance.{plain, leading, fronted}
+use Rattle.token.specs.Prefixed.{hashed, afterR, afterK, afterC, afterB}
+use Rattle.token.specs.Punctuation.{hashOrQuote}
+use Rattle.token.specs.Frontmatter.{lineRest, dashes, useLine, docLine, attributeLine, first, stillBlank, lastSearch, recovery, lineAt, closed, body, infostring, frontmatter}
+use Rattle.token.specs.Advance.{plain, leading, fronted, decided}
 
 -- the end starts no identifier
 starts-nothing : (L : Lists) → starting L 0 ≡ false
@@ -123,15 +121,15 @@ fits-quote L =
     (fits-character L))))
 
 -- r, k, b, c
-fits-marked : (L : Lists) (k : TokenKind) → Fits 2 (Rattle.eaters.specs.Eat._>>_ (Rattle.eaters.specs.Eat._>>_ (Rattle.eaters.specs.Eat.eat 1) (identifier L)) (Rattle.eaters.specs.Eat.give k))
-fits-marked L k = fits-wider (omega arith) (fits-then (fits-then (fits-eat 1) (fits-identifier L)) (fits-give k))
+fits-hashed : (L : Lists) (k : TokenKind) → Fits 2 (hashed L k)
+fits-hashed L k = fits-wider (omega arith) (fits-then (fits-then (fits-eat 1) (fits-identifier L)) (fits-give k))
 
 fits-r : (L : Lists) → Fits 0 (afterR L)
 fits-r L =
-    fits-ifTwo _ (starting L) (starts-nothing L) (fits-marked L _) (fits-ifAt hashOrQuote (fits-literal L 1 (fits-raw RawStr)) (fits-word L))
+    fits-ifTwo _ (starting L) (starts-nothing L) (fits-hashed L _) (fits-ifAt hashOrQuote (fits-literal L 1 (fits-raw RawStr)) (fits-word L))
 
 fits-k : (L : Lists) → Fits 0 (afterK L)
-fits-k L = fits-ifTwo _ (starting L) (starts-nothing L) (fits-marked L _) (fits-word L)
+fits-k L = fits-ifTwo _ (starting L) (starts-nothing L) (fits-hashed L _) (fits-word L)
 
 fits-c : (L : Lists) (mk : Bool → LiteralKind) (raw : HashCount → LiteralKind) → Fits 0 (afterC L mk raw)
 fits-c L mk raw =
@@ -151,7 +149,7 @@ fits-plain L c =
     (fits-choose _ (fits-c L CStr RawCStr)
     (fits-choose _ (fits-word L)
     (fits-choose _ (fits-literal L 1 (fits-number L c))
-    (fits-choose _ (fits-ifEat guardMark refl (fits-give _) (fits-give _))
+    (fits-choose _ (fits-ifEat hashOrQuote refl (fits-give _) (fits-give _))
     (fits-choose _ (fits-give _)
     (fits-choose _ (fits-quote L)
     (fits-choose _ (fits-literal L 1 (fits-double Str))
@@ -204,7 +202,7 @@ in-last (c ∷ cs) (suc k) b = in-further (in-last cs k b)
 in-last (c ∷ cs) zero b =
     by-pick (In (c ∷ cs)) (begins (dashes 3) (c ∷ cs)) _ _
     (λ t. by-pick (In (c ∷ cs)) b _ _ (λ u. here zero-le) (λ u. in-further (in-last cs 2 true)))
-    (λ t. in-further (in-last cs 0 (or (is 'newline' c) (and b (isHorizontalWhitespace c)))))
+    (λ t. in-further (in-last cs 0 (stillBlank b c)))
 
 in-recovery : (cs : List ℕ) → In cs (recovery cs)
 in-recovery cs =
@@ -213,7 +211,7 @@ in-recovery cs =
 
 line-short : (ds : List ℕ) → lineRest ds ≤ length ds
 unfolding while
-line-short ds = fits-while (λ c. not (is 'newline' c)) .fits ds zero-le
+line-short ds = fits-while inLine .fits ds zero-le
 
 line-in : {cs : List ℕ} {q : Place} → In cs q → lineAt q cs ≤ length cs
 line-in {cs} (here {k} h) = omega (arith, line-short (drop k cs), length-drop k cs)
@@ -242,5 +240,5 @@ fits-fronted : (L : Lists) (c : ℕ) → Fits 0 (fronted L c)
 fits-fronted L c =
     fits-choose _ (fits-leading L c) (fits-choose _ (fits-ifTwo (is '-') (is '-') refl (fits-more 2 (fits-front L false)) (fits-plain L c)) (fits-plain L c))
 
-pub fits-token : (L : Lists) (on : Bool) (c : ℕ) → Fits 0 (Rattle.eaters.specs.Eat.choose on (fronted L c) (plain L c))
+pub fits-token : (L : Lists) (on : Bool) (c : ℕ) → Fits 0 (decided L on c)
 fits-token L on c = fits-choose on (fits-fronted L c) (fits-plain L c)

@@ -5,7 +5,7 @@ use mathlib.Core.Bool.{Bool, true, false}
 use lib.Dec.{eqb}
 use Rattle.basics.specs.Choice.{and}
 use Rattle.eaters.specs.Eat.{Eater, give, eat, while, _>>=_, _>>_, choose}
-use Rattle.eaters.specs.Look.{ifTwo, ifEat}
+use Rattle.eaters.specs.Look.{ifTwo}
 use Rattle.eaters.specs.Look.{ifBegins}
 use Rattle.classes.specs.Identifiers.{digit}
 use Rattle.classes.specs.Whitespace.{isWhitespace}
@@ -22,7 +22,7 @@ use Rattle.token.specs.Quotes.{doubleQuoted}
 use Rattle.token.specs.Numbers.{number}
 use Rattle.token.specs.Lifetimes.{lifetimeOrChar}
 use Rattle.token.specs.Prefixed.{afterR, afterK, afterB, afterC}
-use Rattle.token.specs.Punctuation.{symbols, isSymbol, symbolKind, guardMark}
+use Rattle.token.specs.Punctuation.{symbols, isSymbol, symbolKind, pound}
 use Rattle.token.specs.Frontmatter.{dashes, frontmatter}
 
 -- after the first character c, frontmatter off
@@ -36,7 +36,7 @@ plain L c =
     (choose (is 'c' c) (afterC L CStr RawCStr)
     (choose (starting L c) (identOrUnknownPrefix L)
     (choose (digit c) (literal L 1 (number L c))
-    (choose (is '#' c) (ifEat guardMark (give kind.GuardedStrPrefix) (give kind.Pound))
+    (choose (is '#' c) pound
     (choose (isSymbol symbols c) (give (symbolKind symbols kind.Unknown c))
     (choose (is 'single' c) (lifetimeOrChar L)
     (choose (is 'double' c) (literal L 1 (doubleQuoted Str))
@@ -62,6 +62,10 @@ fronted L c =
     (choose (is '-' c) (ifTwo (is '-') (is '-') (frontmatter L false) (plain L c))
     (plain L c))
 
+-- after the first character c, frontmatter on or off
+abbrev pub decided : Lists → (on : Bool) (c : ℕ) → Eater TokenKind
+decided L on c = choose on (fronted L c) (plain L c)
+
 -- on stays on through whitespace only
 abbrev pub stays : TokenKind → Bool
 stays k = eqb (Rattle.token.specs.Kinds.kindNumber k) 2
@@ -75,5 +79,5 @@ pub record Told : Type 0 where
 unfoldable pub advance : Lists → (on : Bool) → Eater Told
 advance L on [] = record { took = 0; said = record { kind = kind.Eof; on = on } }
 advance L on (c ∷ cs) =
-    let r = choose on (fronted L c) (plain L c) cs in
+    let r = decided L on c cs in
     record { took = suc (r .took); said = record { kind = r .said; on = and on (stays (r .said)) } }

@@ -1,12 +1,12 @@
 -- Comments (000's line_comment and block_comment), after the two characters that open them.
-use Prim.Native.Nat.{ℕ, suc, pred}
+use Prim.Native.Nat.{ℕ}
 use mathlib.Core.List.{List}
 use mathlib.Core.Bool.{Bool, not}
 use lib.ListN.{getD}
 use Rattle.basics.specs.Choice.{pick, and, or}
 use Rattle.eaters.specs.Eat.{Eater, give, while, _>>=_, _>>_, texted}
 use Rattle.eaters.specs.Look.{ifEat}
-use Rattle.eaters.specs.Scan.{Turn, on, scan}
+use Rattle.eaters.specs.Scan.{Turn, go, deeper, shallower, scan}
 use Rattle.token.specs.declared.DocStyle.{DocStyle}
 use Rattle.token.specs.declared.DocStyle.the-variants.{Outer, Inner, Plain}
 use Rattle.token.specs.declared.TokenKind.{TokenKind}
@@ -34,7 +34,7 @@ blockDoc t =
 
 -- /* adds one to the depth and */ takes one, each pair used once
 abbrev pub blockTurn : (depth c next : ℕ) → Turn
-blockTurn d c e = pick (and (is '/' c) (is '*' e)) (on 1 (suc d)) (pick (and (is '*' c) (is '/' e)) (on 1 (pred d)) (on 0 d))
+blockTurn d c e = pick (and (is '/' c) (is '*' e)) (deeper d) (pick (and (is '*' c) (is '/' e)) (shallower d) (go d))
 
 -- depth 1 after /*; it ends where the depth is 0
 abbrev pub blockComment : Eater TokenKind

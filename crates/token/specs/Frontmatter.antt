@@ -1,7 +1,7 @@
 -- Frontmatter (000's frontmatter), after its first dash.
 use Prim.Native.Nat.{ℕ, zero, suc, _+_}
 use mathlib.Core.List.{List, [], _∷_}
-use mathlib.Core.Bool.{Bool, true, false, not}
+use mathlib.Core.Bool.{Bool, true, false}
 use lib.ListN.{length, drop}
 use Rattle.basics.specs.Choice.{pick, and, or}
 use Rattle.eaters.specs.Eat.{Eater, give, nothing, takeWhile, while, _>>=_, _>>_}
@@ -13,10 +13,11 @@ use Rattle.token.specs.declared.TokenKind.{TokenKind}
 use Rattle.token.specs.declared.TokenKind.the-variants as kind
 use Rattle.token.specs.Names.{is, 'newline', 'space', '!', '#', '-', 'dot', '/', '[', 'e', 's', 'u'}
 use Rattle.token.specs.Lists.{Lists, starting, going}
+use Rattle.token.specs.Comments.{inLine}
 
 -- how many characters are left on the line
 abbrev pub lineRest : List ℕ → ℕ
-lineRest cs = length (takeWhile (λ c. not (is 'newline' c)) cs)
+lineRest cs = length (takeWhile inLine cs)
 
 -- n dashes
 abbrev pub dashes : ℕ → List ℕ
@@ -27,6 +28,10 @@ dashes (suc n) = '-' ∷ dashes n
 abbrev pub first : List ℕ → List ℕ → Place
 first l cs = find (begins l) cs
 
+-- only blanks up to and with c, if `blank` says so before it; a newline begins a new line
+abbrev pub stillBlank : (blank : Bool) → ℕ → Bool
+stillBlank blank c = or (is 'newline' c) (and blank (isHorizontalWhitespace c))
+
 -- THE LAST SEARCH: the first three dashes before which there are only blanks, counted from the start of their line, or from where the
 -- search began, or from the three dashes before them. `skip` characters belong to dashes that were passed; `blank`: only blanks so far.
 unfoldable pub lastSearch : (skip : ℕ) (blank : Bool) → List ℕ → Place
@@ -36,7 +41,7 @@ lastSearch (suc k) blank (c ∷ cs) = further (lastSearch k blank cs)
 lastSearch zero blank (c ∷ cs) =
     pick (begins (dashes 3) (c ∷ cs))
     (pick blank (at 0) (further (lastSearch 2 true cs)))
-    (further (lastSearch 0 (or (is 'newline' c) (and blank (isHorizontalWhitespace c))) cs))
+    (further (lastSearch 0 (stillBlank blank c) cs))
 
 -- the newlines that Rust may begin after: before `use `, before `//!`, before `#![`
 abbrev pub useLine : List ℕ
@@ -68,11 +73,15 @@ closed n nowhere cs = lineAt (recovery cs) cs
 unfoldable pub body : (n : ℕ) → Eater (Unit {0})
 body n cs = record { took = closed n (first ('newline' ∷ dashes n) cs) cs; said = tt }
 
+-- what goes on in an infostring: what goes on in an identifier, and - and .
+abbrev pub inInfostring : Lists → ℕ → Bool
+inInfostring L c = or (going L c) (or (is '-' c) (is 'dot' c))
+
 -- the infostring: like an identifier, with - and . in it
 abbrev pub infostring : Lists → Eater (Unit {0})
-infostring L = ifEat (starting L) (while (λ c. or (going L c) (or (is '-' c) (is 'dot' c))) >> nothing) nothing
+infostring L = ifEat (starting L) (while (inInfostring L) >> nothing) nothing
 
--- blanks and the infostring stand on the fence's line; it is invalid if something else stands there
+-- blanks and the infostring stand on the fence's line; the infostring is invalid if no newline comes right after them, at the end of the text too
 abbrev pub frontmatter : Lists → (invalidBefore : Bool) → Eater TokenKind
 frontmatter L invalidBefore = do
   more ← while (is '-')

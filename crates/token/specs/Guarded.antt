@@ -14,11 +14,15 @@ use Rattle.token.specs.Lists.{Lists}
 use Rattle.token.specs.Literals.{identifier}
 use Rattle.token.specs.Quotes.{doubleTurn}
 
--- the string after n hashes and a quote: up to n hashes and a suffix follow one that ends. It says whether it ends.
+-- what may follow a string that ends: n hashes at the most, and a suffix
+abbrev pub guardedEnd : Lists → (n : ℕ) → Eater (Unit {0})
+guardedEnd L n = whileMost n (is '#') >> identifier L
+
+-- the string after n hashes and a quote. It says whether it ends.
 abbrev pub guardedRest : Lists → (n : ℕ) → Eater Bool
 guardedRest L n = do
   terminated ← scan doubleTurn 0 1
-  choose terminated (whileMost n (is '#') >> identifier L) nothing
+  choose terminated (guardedEnd L n) nothing
   give terminated
 
 -- whether hashes and a quote are there; if not, the hashes are taken

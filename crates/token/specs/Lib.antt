@@ -1,5 +1,6 @@
 pub mod Names
 pub mod Lists
+pub mod Shapes
 pub mod Kinds
 pub mod Literals
 pub mod Whitespace
@@ -9,12 +10,13 @@ pub mod Quotes
 pub mod RawStrings
 pub mod Numbers
 pub mod Lifetimes
-pub mod Prefixed
 pub mod Punctuation
+pub mod Prefixed
 pub mod Frontmatter
 pub mod Advance
 pub mod Tokens
 pub mod Trivia
+pub mod Broken
 pub mod Guarded
 pub mod RawCheck
 pub mod Shebang

@@ -32,6 +32,14 @@ lifetime L numbered = do
   r ← texted (eat 1)
   lifetimeRest L numbered (1 + size (r .text))
 
+-- a raw lifetime, from its hash on: the hash, the start of an identifier and what goes on in it
+abbrev pub rawName : Lists → Eater TokenKind
+rawName L = eat 2 >> while (going L) >> give RawLifetime
+
+-- after a quote and an r: a raw lifetime, or the rest of a name
+abbrev pub afterQuoteR : Lists → Eater TokenKind
+afterQuoteR L = ifTwo (is '#') (starting L) (rawName L) (lifetimeRest L false 2)
+
 -- a digit or the start of an identifier may begin a lifetime
 abbrev pub naming : Lists → ℕ → Bool
 naming L c = or (starting L c) (digit c)
@@ -40,8 +48,7 @@ naming L c = or (starting L c) (digit c)
 abbrev pub lifetimeOr : Lists → Eater TokenKind → Eater TokenKind
 lifetimeOr L char =
     ifTwo (naming L) (is 'single') char
-    (ifEat (is 'r')
-    (ifTwo (is '#') (starting L) (eat 2 >> while (going L) >> give RawLifetime) (lifetimeRest L false 2))
+    (ifEat (is 'r') (afterQuoteR L)
     (ifAt digit (lifetime L true)
     (ifAt (starting L) (lifetime L false)
     char)))

@@ -18,9 +18,13 @@ pub record Body : Type 0 where
   pub kind : LiteralKind
   pub suffixed : Bool
 
+-- a suffix, if one is read
+abbrev pub suffix : Lists → (suffixed : Bool) → Eater (Unit {0})
+suffix L suffixed = choose suffixed (identifier L) nothing
+
 -- a literal of which `before` bytes are taken already: its suffix starts where its body ends
 abbrev pub literal : Lists → (before : ℕ) → Eater Body → Eater TokenKind
 literal L before body = do
   r ← texted body
-  choose (r .said .suffixed) (identifier L) nothing
+  suffix L (r .said .suffixed)
   give (Literal (r .said .kind) (before + size (r .text)))

@@ -10,6 +10,9 @@ is x c = eqb c x
 abbrev pub 'newline' : ℕ
 'newline' = 10
 
+abbrev pub 'carriage-return' : ℕ
+'carriage-return' = 13
+
 abbrev pub 'space' : ℕ
 'space' = 32
 

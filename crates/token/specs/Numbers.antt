@@ -36,29 +36,39 @@ int base empty = record { kind = Int base empty; suffixed = true }
 abbrev pub float : Base → (empty : Bool) → Body
 float base empty = record { kind = Float base empty; suffixed = true }
 
--- after the e: a sign, and digits; empty if there is none among them
+-- the sign of an exponent, if there is one
+abbrev pub sign : Eater (Unit {0})
+sign = ifEat (λ c. or (is '-' c) (is '+' c)) nothing nothing
+
+-- after the e: a sign, and digits and underscores; empty if none of them is a digit
 abbrev pub exponent : Base → Eater Body
 exponent base = do
-  ifEat (λ c. or (is '-' c) (is '+' c)) nothing nothing
+  sign
   t ← while decimals
   give (float base (not (any digit t)))
 
 abbrev pub maybeExponent : Base → Body → Eater Body
 maybeExponent base else = ifEat (λ c. or (is 'e' c) (is 'E' c)) (exponent base) (give else)
 
+-- after a point that joins: digits and then an exponent; without a digit there is no exponent either
+abbrev pub afterPoint : Base → Eater Body
+afterPoint base = ifAt digit (while decimals >> maybeExponent base (float base false)) (give (float base false))
+
 -- after the digits: a point joins, unless a point or the start of an identifier follows it; an exponent follows digits
 abbrev pub fraction : Lists → Base → Eater Body
 fraction L base =
     ifTwo (is 'dot') (λ c. or (is 'dot' c) (starting L c)) (give (int base false))
-    (ifEat (is 'dot')
-    (ifAt digit (while decimals >> maybeExponent base (float base false)) (give (float base false)))
-    (maybeExponent base (int base false)))
+    (ifEat (is 'dot') (afterPoint base) (maybeExponent base (int base false)))
 
--- after a base prefix: without a digit it is empty, and ends there
+-- after the digits that follow a base prefix: without a digit it is empty, and ends there
+abbrev pub afterDigits : Lists → Base → (some : Bool) → Eater Body
+afterDigits L base some = choose some (fraction L base) (give (int base true))
+
+-- after a base prefix
 abbrev pub based : Lists → Base → (digits one : ℕ → Bool) → Eater Body
 based L base digits one = do
   t ← while digits
-  choose (any one t) (fraction L base) (give (int base true))
+  afterDigits L base (any one t)
 
 abbrev pub decimal : Lists → Eater Body
 decimal L = while decimals >> fraction L Decimal

@@ -1,11 +1,13 @@
 -- Tokens of one character, and the prefix of a guarded string (000's one-symbol arms).
-use Prim.Native.Nat.{ℕ, _+_, _-_}
+use Prim.Native.Nat.{ℕ}
 use mathlib.Core.List.{List, [], _∷_}
 use mathlib.Core.Bool.{Bool, false}
 use lib.Dec.{eqb}
 use Rattle.basics.specs.Choice.{pick, or}
+use Rattle.eaters.specs.Eat.{Eater, give}
+use Rattle.eaters.specs.Look.{ifEat}
 use Rattle.token.specs.declared.TokenKind.{TokenKind}
-use Rattle.token.specs.declared.TokenKind.the-variants.{Semi, Comma, Dot, OpenParen, CloseParen, OpenBrace, CloseBrace, OpenBracket, CloseBracket, At, Pound, Tilde, Question, Colon, Dollar, Eq, Bang, Lt, Gt, Minus, And, Or, Plus, Star, Caret, Percent}
+use Rattle.token.specs.declared.TokenKind.the-variants.{GuardedStrPrefix, Semi, Comma, Dot, OpenParen, CloseParen, OpenBrace, CloseBrace, OpenBracket, CloseBracket, At, Pound, Tilde, Question, Colon, Dollar, Eq, Bang, Lt, Gt, Minus, And, Or, Plus, Star, Caret, Percent}
 use Rattle.token.specs.Names.{is, 'double', '#'}
 
 -- a character, and the kind of token that it is alone
@@ -56,6 +58,10 @@ abbrev pub symbolKind : List Symbol → (otherwise : TokenKind) → ℕ → Toke
 symbolKind [] k c = k
 symbolKind (s ∷ l) k c = pick (eqb c (s .code)) (s .kind) (symbolKind l k c)
 
--- after a hash: #" and ## are one token
-abbrev pub guardMark : ℕ → Bool
-guardMark c = or (is 'double' c) (is '#' c)
+-- a hash or a double quote
+abbrev pub hashOrQuote : ℕ → Bool
+hashOrQuote c = or (is '#' c) (is 'double' c)
+
+-- after a hash: ## and #" are one token
+abbrev pub pound : Eater TokenKind
+pound = ifEat hashOrQuote (give GuardedStrPrefix) (give Pound)

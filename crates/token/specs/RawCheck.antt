@@ -28,7 +28,7 @@ guess place g [] = g
 guess place g (c ∷ cs) =
     guess (place + width c) (pick (and (is 'double' c) (ltb (g .most) (hashes cs))) (record { most = hashes cs; offset = At (place + 1) }) g) cs
 
--- a string that does not end is told before one with too many hashes
+-- a string that does not end is reported before one with too many hashes
 abbrev pub unended : (place n : ℕ) → List ℕ → RawStr
 unended place n cs = let g = guess place (record { most = 0; offset = Nowhere }) cs in Bad (NoTerminator n (g .most) (g .offset))
 

@@ -1,6 +1,6 @@
 -- Raw strings (000's raw_double_quoted_string), after the r.
 use Prim.Native.Nat.{ℕ}
-use mathlib.Core.Bool.{true, false}
+use mathlib.Core.Bool.{Bool, true, false}
 use lib.ListN.{length}
 use lib.Dec.{ltb}
 use Rattle.basics.specs.Choice.{pick, and}
@@ -21,13 +21,22 @@ counted kind n = record { kind = kind (Of n); suffixed = true }
 abbrev pub uncounted : (HashCount → LiteralKind) → Body
 uncounted kind = record { kind = kind NoCount; suffixed = false }
 
--- n hashes and a quote; the first quote with n hashes after it closes; more than 255 hashes have no count.
--- Any other character after the hashes is taken, and there is no count.
+-- a string of n hashes that ends or not: more than 255 hashes have no count
+abbrev pub rawEnd : (HashCount → LiteralKind) → (n : ℕ) (terminated : Bool) → Body
+rawEnd kind n terminated = pick (and terminated (ltb n 256)) (counted kind n) (uncounted kind)
+
+-- after n hashes and a quote: the first quote with n hashes after it closes
+abbrev pub rawRest : (HashCount → LiteralKind) → (n : ℕ) → Eater Body
+rawRest kind n = do
+  terminated ← firstWith 'double' '#' n
+  give (rawEnd kind n terminated)
+
+-- after n hashes: a quote opens the string; any other character is taken, and there is no count
+abbrev pub afterHashes : (HashCount → LiteralKind) → (n : ℕ) → Eater Body
+afterHashes kind n = ifEat (is 'double') (rawRest kind n) (eatAny >> give (uncounted kind))
+
+-- hashes, and what they open
 abbrev pub rawString : (HashCount → LiteralKind) → Eater Body
 rawString kind = do
   hashes ← while (is '#')
-  ifEat (is 'double')
-      (do
-        terminated ← firstWith 'double' '#' (length hashes)
-        give (pick (and terminated (ltb (length hashes) 256)) (counted kind (length hashes)) (uncounted kind)))
-      (eatAny >> give (uncounted kind))
+  afterHashes kind (length hashes)

@@ -1,6 +1,6 @@
 // The types of 000, by value. What 000 writes as an `Option` is a case of its own here. The rules of tokens stand in specs/.
 
-// 000's `Option<DocStyle>`: `Plain` is no doc comment.
+// 000's `Option<DocStyle>`: `Plain` is not a doc comment.
 pub enum DocStyle {
     Outer,
     Inner,

@@ -1,6 +1,6 @@
 -- The table of names: where the name of each kind stands in it.
-use Prim.Native.Nat.{ℕ, _+_, _-_, _≤_}
-use mathlib.Core.Path.{_≡_, refl, sym, subst}
+use Prim.Native.Nat.{ℕ, zero, suc, _+_, _-_, _≤_, _<_}
+use mathlib.Core.Path.{_≡_, refl, sym, ap, subst, _∙_}
 use mathlib.Core.List.{List, [], _∷_}
 use mathlib.Core.Bool.{Bool, true}
 use borrow.Author.Tests.{leb-true}
@@ -10,9 +10,9 @@ use native.Mathlib.Omega.{arith}
 use Rattle.basics.specs.Choice.{and}
 use Rattle.basics.proofs.Choices.{and-1, and-2}
 use Rattle.token.specs.declared.TokenKind.{TokenKind}
-use Rattle.token.specs.declared.TokenKind.the-variants.{LineComment, BlockComment, Whitespace, Frontmatter, Ident, InvalidIdent, RawIdent, ForcedKeywordIdent, UnknownPrefix, UnknownPrefixLifetime, RawLifetime, GuardedStrPrefix, Literal, Lifetime, Semi, Comma, Dot, OpenParen, CloseParen, OpenBrace, CloseBrace, OpenBracket, CloseBracket, At, Pound, Tilde, Question, Colon, Dollar, Eq, Bang, Lt, Gt, Minus, And, Or, Plus, Star, Slash, Caret, Percent, Unknown, Eof}
-use Rattle.token.specs.Kinds.{kindNumber, kindName}
-use Rattle.codes.specs.Coded.{Coded}
+use Rattle.token.specs.Kinds.{kindNumber, kindNames, kindName}
+use Rattle.token.proofs.Shapes.{small-number}
+use Rattle.kinds.specs.Coded.{Coded}
 use Rattle.puts.specs.Put.{Put, PutFew}
 
 -- the tables of the code
@@ -28,74 +28,45 @@ from n = getD starts n 0
 abbrev to : ℕ → ℕ
 to n = getD starts (n + 1) 0
 
+-- the entry that a number names
+abbrev part : ℕ → List ℕ
+part n = take (to n - from n) (drop (from n) names)
+
 -- the name of kind k is entry n
 pub record Entry (k : TokenKind) (n : ℕ) : Type 0 where
   pub order : from n ≤ to n
   pub room : to n ≤ 322
   pub few : to n - from n ≤ 21
-  pub name : take (to n - from n) (drop (from n) names) ≡ kindName k
+  pub name : part n ≡ kindName k
 
 abbrev test : ℕ → Bool
 test n = and (leb (from n) (to n)) (and (leb (to n) 322) (leb (to n - from n) 21))
 
-entry : (k : TokenKind) → test (kindNumber k) ≡ true → take (to (kindNumber k) - from (kindNumber k)) (drop (from (kindNumber k)) names) ≡ kindName k → Entry k (kindNumber k)
-entry k t e =
+-- the values at the first numbers, and what has the same values there
+abbrev upto : {A : Type 0} → (ℕ → A) → ℕ → List A
+upto f zero = []
+upto f (suc m) = f 0 ∷ upto (λ i. f (suc i)) m
+
+at-upto : {A : Type 0} (f : ℕ → A) (m n : ℕ) (d : A) → n < m → getD (upto f m) n d ≡ f n
+at-upto f zero n d h = absurd (omega arith)
+at-upto f (suc m) zero d h = refl
+at-upto f (suc m) (suc n) d h = at-upto (λ i. f (suc i)) m n d (omega arith)
+
+agree : {A : Type 0} (f g : ℕ → A) (m : ℕ) → upto f m ≡ upto g m → (n : ℕ) → n < m → f n ≡ g n
+agree f g m e n h = sym (at-upto f m n (f n) h) ∙ ap (λ l. getD l n (f n)) e ∙ at-upto g m n (f n) h
+
+-- tried for each number
+entries : (k : TokenKind) → Entry k (kindNumber k)
+entries k =
     let n : ℕ = kindNumber k in
+    let l : n < 43 = omega (arith, small-number k) in
+    let t : test n ≡ true = agree test (λ i. true) 43 refl n l in
     record {
       order = leb-true (from n) (to n) (and-1 _ _ t);
       room = leb-true (to n) 322 (and-1 _ _ (and-2 (leb (from n) (to n)) _ t));
       few = leb-true (to n - from n) 21 (and-2 (leb (to n) 322) _ (and-2 (leb (from n) (to n)) _ t));
-      name = e;
+      name = agree part (λ i. getD kindNames i []) 43 refl n l;
     }
-
-entries : (k : TokenKind) → Entry k (kindNumber k)
-entries (LineComment d) = entry (LineComment d) refl refl
-entries (BlockComment d t) = entry (BlockComment d t) refl refl
-entries Whitespace = entry Whitespace refl refl
-entries (Frontmatter a b) = entry (Frontmatter a b) refl refl
-entries Ident = entry Ident refl refl
-entries InvalidIdent = entry InvalidIdent refl refl
-entries RawIdent = entry RawIdent refl refl
-entries ForcedKeywordIdent = entry ForcedKeywordIdent refl refl
-entries UnknownPrefix = entry UnknownPrefix refl refl
-entries UnknownPrefixLifetime = entry UnknownPrefixLifetime refl refl
-entries RawLifetime = entry RawLifetime refl refl
-entries GuardedStrPrefix = entry GuardedStrPrefix refl refl
-entries (Literal k n) = entry (Literal k n) refl refl
-entries (Lifetime b) = entry (Lifetime b) refl refl
-entries Semi = entry Semi refl refl
-entries Comma = entry Comma refl refl
-entries Dot = entry Dot refl refl
-entries OpenParen = entry OpenParen refl refl
-entries CloseParen = entry CloseParen refl refl
-entries OpenBrace = entry OpenBrace refl refl
-entries CloseBrace = entry CloseBrace refl refl
-entries OpenBracket = entry OpenBracket refl refl
-entries CloseBracket = entry CloseBracket refl refl
-entries At = entry At refl refl
-entries Pound = entry Pound refl refl
-entries Tilde = entry Tilde refl refl
-entries Question = entry Question refl refl
-entries Colon = entry Colon refl refl
-entries Dollar = entry Dollar refl refl
-entries Eq = entry Eq refl refl
-entries Bang = entry Bang refl refl
-entries Lt = entry Lt refl refl
-entries Gt = entry Gt refl refl
-entries Minus = entry Minus refl refl
-entries And = entry And refl refl
-entries Or = entry Or refl refl
-entries Plus = entry Plus refl refl
-entries Star = entry Star refl refl
-entries Slash = entry Slash refl refl
-entries Caret = entry Caret refl refl
-entries Percent = entry Percent refl refl
-entries Unknown = entry Unknown refl refl
-entries Eof = entry Eof refl refl
-
--- the entry that a number names
-abbrev part : ℕ → List ℕ
-part n = take (to n - from n) (drop (from n) names)
 
 module _ (k : TokenKind) {n : ℕ} (c : Coded 42 (kindNumber k) n) where
   pub entry-of : Entry k n

@@ -72,7 +72,7 @@ fn put_name(out: &mut [u8], at: usize, kind: TokenKind) -> usize
     requires { ⌜ at + 21 ≤ length (now out) ⌝ }
     ensures { λ r. ⌜ PutFew 21 (kindName kind) (now (out .entry)) at (now (out .exit)) r ⌝ }
 {
-    let n = codes::kind_number(kind) as usize;
+    let n = kinds::kind_number(kind) as usize;
     let names = NAMES;
     let starts = STARTS;
     let from = starts[n];

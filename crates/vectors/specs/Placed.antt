@@ -1,23 +1,14 @@
--- A part of a file lies past the place that was asked for and within the file.
-use Prim.Native.Nat.{ℕ, _≤_, _<_}
-use Rattle.vectors.specs.declared.Part as part
-use Rattle.vectors.specs.declared.Part.the-variants.{At}
-use Rattle.vectors.specs.declared.Vector as vector
-use Rattle.vectors.specs.declared.Vector.the-variants.{Of}
+-- Parts lie within the file, and not before the place where they were looked for.
+use Prim.Native.Nat.{ℕ, _≤_}
+use Rattle.vectors.specs.declared.Part.{Part}
+use Rattle.vectors.specs.declared.Vector.{Vector}
 
-pub record Between (length at from to : ℕ) : Type 0 where
-  pub past : at < from
-  pub order : from ≤ to
-  pub room : to ≤ length
+pub record Placed (n at : ℕ) (p : Part) : Type 0 where
+  pub place : at ≤ p .from
+  pub order : p .from ≤ p .to
+  pub room : p .to ≤ n
 
-abbrev pub InFile : (length at : ℕ) → part.Part → Type 0
-InFile length at (At from to) = Between length at from to
-InFile length at part.the-variants.Short = Unit {0}
-
-pub record Parts (length at a b c d : ℕ) : Type 0 where
-  pub input : Between length at a b
-  pub answer : Between length b c d
-
-abbrev pub VectorInFile : (length at : ℕ) → vector.Vector → Type 0
-VectorInFile length at (Of operation a b c d) = Parts length at a b c d
-VectorInFile length at vector.the-variants.Short = Unit {0}
+-- the part that is handed in, and after it the answer
+pub record VectorPlaced (n at : ℕ) (v : Vector) : Type 0 where
+  pub input : Placed n at (v .input)
+  pub answer : Placed n (v .input .to) (v .answer)

@@ -1,110 +1,118 @@
-// Files of stored test vectors: where their parts are. tools/oracle/README.md describes the format.
+// Files of stored test vectors: where their parts are, and numbers in their form. tools/oracle/README.md describes the format.
 //
-// A file is lent as bytes, and nothing is believed of it: a part that would run past the end is not there.
-ghost use Prim.Native.Nat.{_+_, _≤_};
-ghost use mathlib.Core.Path.{_≡_};
+// A file is lent as bytes, and nothing is believed of it: a part that would run past the end is not there. What is promised is what the replay
+// needs: every part lies within the file, and every answer within the buffer. That the numbers are read and put as they have to be is
+// judged by the stored answers themselves.
+ghost use Prim.Native.Nat.{_+_, _<_, _≤_};
 ghost use lib.ListN.{length};
-ghost use lib.Seq.{sets};
-ghost use Rattle.vectors.specs.File.{bytesOf, answerBytes};
-ghost use Rattle.vectors.specs.Put.{NumberThere, BytesThere, NumbersThere, VectorThere, Loaded, PutAt, Answered};
+ghost use Rattle.vectors.specs.Placed.{Placed, VectorPlaced};
 use refusal::Numbers;
 
-// A part of a file, from its first place to the place past it.
-pub enum Part {
-    At(usize, usize),
-    Short,
+// A part of a file, from its first place to the place past it. One that is not there is empty and stands where it was looked for.
+pub struct Part {
+    pub from: usize,
+    pub to: usize,
 }
 
-// A vector: the operation, the part that is handed in and the part that is the answer.
-pub enum Vector {
-    Of(u32, usize, usize, usize, usize),
-    Short,
-}
-
-fn wide(x: u8) -> u32
-    ensures { λ r. ⌜ (r ≡ x) × (r ≤ 255) ⌝ }
-{
-    x as u32
+// A vector: the operation, what is handed in and the answer. One that is not there ends where it was looked for.
+pub struct Vector {
+    pub operation: u32,
+    pub input: Part,
+    pub answer: Part,
 }
 
 // The number in the four bytes at a place, lowest first; 0 where they are not there.
-pub fn number(s: &[u8], at: usize) -> u32
-    ensures { λ r. ⌜ NumberThere (now (s .entry)) at r ⌝ }
-{
+pub fn number(s: &[u8], at: usize) -> u32 {
     if s.len() < 4 {
         return 0;
     }
     if s.len() - 4 < at {
         return 0;
     }
-    let a = wide(s[at]);
-    let b = wide(s[at + 1]);
-    let c = wide(s[at + 2]);
-    let d = wide(s[at + 3]);
+    let a = text::wide(s[at]);
+    let b = text::wide(s[at + 1]);
+    let c = text::wide(s[at + 2]);
+    let d = text::wide(s[at + 3]);
     a + 0x100 * b + 0x10000 * c + 0x1000000 * d
+}
+
+// n bytes, after the four bytes at a place.
+fn after_number(s: &[u8], at: usize, n: usize) -> Part
+    requires { ⌜ at ≤ length (now s) ⌝ }
+    ensures { λ r. ⌜ Placed (length (now (s .entry))) at r ⌝ }
+{
+    if s.len() - at < 4 {
+        return Part { from: at, to: at };
+    }
+    let from = at + 4;
+    if s.len() - from < n {
+        return Part { from: at, to: at };
+    }
+    Part { from, to: from + n }
 }
 
 // A number at a place, and as many bytes after it as it says.
 pub fn bytes_at(s: &[u8], at: usize) -> Part
-    ensures { λ r. ⌜ BytesThere (now (s .entry)) at r ⌝ }
+    requires { ⌜ at ≤ length (now s) ⌝ }
+    ensures { λ r. ⌜ Placed (length (now (s .entry))) at r ⌝ }
 {
-    if s.len() < 4 {
-        return Part::Short;
-    }
-    if s.len() - 4 < at {
-        return Part::Short;
-    }
     let n = number(s, at) as usize;
-    let from = at + 4;
-    if s.len() - from < n {
-        return Part::Short;
-    }
-    Part::At(from, from + n)
+    after_number(s, at, n)
 }
 
 // A number at a place, and as many numbers after it as it says.
 pub fn numbers_at(s: &[u8], at: usize) -> Part
-    ensures { λ r. ⌜ NumbersThere (now (s .entry)) at r ⌝ }
+    requires { ⌜ at ≤ length (now s) ⌝ }
+    ensures { λ r. ⌜ Placed (length (now (s .entry))) at r ⌝ }
 {
-    if s.len() < 4 {
-        return Part::Short;
-    }
-    if s.len() - 4 < at {
-        return Part::Short;
-    }
     let n = number(s, at) as usize;
-    let from = at + 4;
-    if (s.len() - from) / 4 < n {
-        return Part::Short;
+    after_number(s, at, n * 4)
+}
+
+// No vector at a place.
+fn no_vector(at: usize) -> Vector
+    ensures { λ r. ⌜ VectorPlaced at at r ⌝ }
+{
+    let input = Part { from: at, to: at };
+    let answer = Part { from: at, to: at };
+    Vector {
+        operation: 0,
+        input,
+        answer,
     }
-    Part::At(from, from + n * 4)
 }
 
 // The vector at a place.
 pub fn vector_at(s: &[u8], at: usize) -> Vector
-    ensures { λ r. ⌜ VectorThere (now (s .entry)) at r ⌝ }
+    requires { ⌜ at ≤ length (now s) ⌝ }
+    ensures { λ r. ⌜ VectorPlaced (length (now (s .entry))) at r ⌝ }
 {
-    if s.len() < 4 {
-        return Vector::Short;
+    if s.len() - at < 4 {
+        return no_vector(at);
     }
-    if s.len() - 4 < at {
-        return Vector::Short;
+    let input = bytes_at(s, at + 4);
+    let end = input.to;
+    if end <= at + 4 {
+        return no_vector(at);
     }
-    let Part::At(a, b) = bytes_at(s, at + 4) else {
-        return Vector::Short;
-    };
-    let Part::At(c, d) = bytes_at(s, b) else {
-        return Vector::Short;
-    };
-    Vector::Of(number(s, at), a, b, c, d)
+    let answer = bytes_at(s, end);
+    if answer.to <= end {
+        return no_vector(at);
+    }
+    Vector {
+        operation: number(s, at),
+        input,
+        answer,
+    }
 }
 
-// Copies the numbers from `from` on into out, as many as both have, and answers how many.
-pub fn load(s: &[u8], from: usize, to: usize, out: &mut [u32]) -> usize
-    ensures { λ r. ⌜ Loaded (now (s .entry)) from to (now (out .entry)) (now (out .exit)) r ⌝ }
+// Copies the numbers of a part into out, as many as both have, and answers how many.
+pub fn load(s: &[u8], part: Part, out: &mut [u32]) -> usize
+    ensures { λ r. ⌜ r ≤ length (now (out .exit)) ⌝ }
 {
+    let to = part.to;
     let mut k = 0;
-    let mut at = from;
+    let mut at = part.from;
     while k < out.len() {
         if to < 4 {
             return k;
@@ -119,40 +127,45 @@ pub fn load(s: &[u8], from: usize, to: usize, out: &mut [u32]) -> usize
     k
 }
 
-// Puts the four bytes of a number into out, lowest first.
-fn put(out: &mut [u8], at: usize, n: usize)
-    requires { ⌜ at + 4 ≤ length (now out) ⌝ }
-    ensures { λ _. ⌜ now (out .exit) ≡ sets (now (out .entry)) at (bytesOf n) ⌝ }
+// Puts the low byte of a number at a place.
+fn put_low(out: &mut [u8], at: usize, n: usize)
+    requires { ⌜ at < length (now out) ⌝ }
 {
     out[at] = (n % 0x100) as u8;
-    out[at + 1] = (n / 0x100 % 0x100) as u8;
-    out[at + 2] = (n / 0x10000 % 0x100) as u8;
-    out[at + 3] = (n / 0x1000000 % 0x100) as u8;
 }
 
-// Puts the low four bytes of a number at a place and answers the place past them; where there is no room it puts nothing and answers the place.
-pub fn put_number(out: &mut [u8], at: usize, n: usize) -> usize
-    ensures { λ r. ⌜ PutAt (bytesOf n) (now (out .entry)) at (now (out .exit)) r ⌝ }
+// Puts the low four bytes of a number at a place, lowest first.
+fn put_four(out: &mut [u8], at: usize, n: usize)
+    requires { ⌜ at + 4 ≤ length (now out) ⌝ }
 {
-    if out.len() < 4 {
-        return at;
-    }
-    if out.len() - 4 < at {
-        return at;
-    }
-    put(out, at, n);
-    at + 4
+    put_low(out, at, n);
+    put_low(out, at + 1, n / 0x100);
+    put_low(out, at + 2, n / 0x10000);
+    put_low(out, at + 3, n / 0x1000000);
 }
 
-// Puts the three numbers of an answer into out, 12 bytes, and answers how many bytes that took.
+// Puts numbers at a place and answers the place past them; where there is no room for all of them it puts nothing and answers the place.
+pub fn put(out: &mut [u8], at: usize, ns: &[usize]) -> usize
+    requires { ⌜ at ≤ length (now out) ⌝ }
+    ensures { λ r. ⌜ r ≤ length (now (out .exit)) ⌝ }
+{
+    if (out.len() - at) / 4 < ns.len() {
+        return at;
+    }
+    let mut i = 0;
+    let mut next = at;
+    while i < ns.len() {
+        put_four(out, next, ns[i]);
+        next += 4;
+        i += 1;
+    }
+    next
+}
+
+// Puts the three numbers of an answer into out and answers how many bytes that took.
 pub fn put_numbers(out: &mut [u8], n: Numbers) -> usize
-    ensures { λ r. ⌜ Answered (answerBytes n) (now (out .entry)) (now (out .exit)) r ⌝ }
+    ensures { λ r. ⌜ r ≤ length (now (out .exit)) ⌝ }
 {
-    if out.len() < 12 {
-        return 0;
-    }
-    put(out, 0, n.number as usize);
-    put(out, 4, n.beside);
-    put(out, 8, n.second);
-    12
+    let ns = [n.number as usize, n.beside, n.second];
+    put(out, 0, &ns)
 }

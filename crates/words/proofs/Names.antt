@@ -20,7 +20,7 @@ use Rattle.token.specs.declared.TokenKind.{TokenKind}
 use Rattle.token.specs.declared.TokenKind.the-variants.{UnknownPrefixLifetime, RawLifetime, Literal, Lifetime}
 use Rattle.token.specs.Names.{is, '#', 'single', 'r'}
 use Rattle.token.specs.Lists.{lent, starting}
-use Rattle.token.specs.Lifetimes.{lifetimeRest, lifetime, naming, lifetimeOr}
+use Rattle.token.specs.Lifetimes.{lifetimeRest, lifetime, rawName, afterQuoteR, naming, lifetimeOr}
 use Rattle.cursor.specs.declared.Cursor.{Cursor}
 use Rattle.cursor.specs.declared.Kinded.the-variants as kinded
 use Rattle.cursor.specs.declared.Scanned.{Scanned}
@@ -30,7 +30,7 @@ use Rattle.cursor.specs.Ran.{left, Ran, kindFrom}
 use Rattle.cursor.proofs.Runs.{ran-word, ran-give, ran-bind, ran-then, ran-eat, ran-eats, ran-yes, ran-no, ran-take, ran-both, ran-not-both, ran-this, ran-that, ran-texted, ran-bytes}
 use Rattle.cursor.proofs.Loops.{ran-while}
 use Rattle.cursor.proofs.Bytes.{while-bytes, bump-bytes, shifted, past-moved}
-use Rattle.words.specs.Lives.{RestRan, rawName, afterR, RawRan, LifeRan, found, other}
+use Rattle.words.specs.Lives.{RestRan, RawRan, LifeRan, found, other}
 use Rattle.words.specs.declared.Life.the-variants as life
 
 -- after the name: what the rule says of the characters t that it took
@@ -72,7 +72,7 @@ module _ (l : List ℕ) (b : Bool) {s : List ℕ} {a n : Cursor} (m : Moved s a 
       lifetime-in h = record { past = tt; ran = λ before. open-end before (ran-that _ _ f (ran-no _ (give (Lifetime false)) (is '#') e (ne-eqb c 0x23 h) (ran-give (Lifetime false) s n))) }
 
 -- a raw name, from its hash on
-pub raw-name-in : (l : List ℕ) {s : List ℕ} {a c d : Cursor} → Moved s a c (drop 2 (rest s a)) → Moved s c d (left (while (idContinue l)) (rest s c)) → Ran (rawName l) s a d RawLifetime
+pub raw-name-in : (l : List ℕ) {s : List ℕ} {a c d : Cursor} → Moved s a c (drop 2 (rest s a)) → Moved s c d (left (while (idContinue l)) (rest s c)) → Ran (rawName (lent [] l [])) s a d RawLifetime
 raw-name-in l {s} {d = d} m k = ran-then (ran-then (ran-eats 2 m) (ran-while (idContinue l) k)) (ran-give RawLifetime s d)
 
 -- after an r
@@ -84,8 +84,8 @@ module _ (i l : List ℕ) {s : List ℕ} {a : Cursor} {c : ℕ} (e : c ≡ getD 
     pub no-start : {r : Scanned} → t ≡ false → RestRan l false s a r → RawRan i l s a r
     no-start n q = record { past = q .past; ran = ran-not-both _ (lifetimeRest (lent i l []) false 2) (is '#') (starting (lent i l [])) e f (rw (h, ← g, n)) (q .ran 2) }
 
-    pub raw-found : {b : Cursor} → t ≡ true → Ran (rawName l) s a b RawLifetime → RawRan i l s a (record { kind = kinded.Plain RawLifetime; next = b })
-    raw-found n r = record { past = tt; ran = ran-both (rawName l) _ (is '#') (starting (lent i l [])) e f (rw (h, ← g, n)) r }
+    pub raw-found : {b : Cursor} → t ≡ true → Ran (rawName (lent [] l [])) s a b RawLifetime → RawRan i l s a (record { kind = kinded.Plain RawLifetime; next = b })
+    raw-found n r = record { past = tt; ran = ran-both (rawName (lent [] l [])) _ (is '#') (starting (lent i l [])) e f (rw (h, ← g, n)) r }
 
 -- A LIFETIME OR NOT, by the first two characters c and d
 no-r : (i l : List ℕ) (c : ℕ) → starting (lent i l []) c ≡ false → is 'r' c ≡ false
@@ -131,7 +131,7 @@ not-two false d q = refl
 
 module _ (i l : List ℕ) {s : List ℕ} {a : Cursor} {c d : ℕ} (f : d ≡ getD (rest s a) 1 0) (q : d ≡ 0x27 → ⊥) (e : c ≡ getD (rest s a) 0 0) where
   past-two : {x : Cursor} {k : TokenKind} (char : Eater TokenKind)
-      → Ran (ifEat (is 'r') (afterR i l) (ifAt digit (lifetime (lent i l []) true) (ifAt (starting (lent i l [])) (lifetime (lent i l []) false) char))) s a x k
+      → Ran (ifEat (is 'r') (afterQuoteR (lent i l [])) (ifAt digit (lifetime (lent i l []) true) (ifAt (starting (lent i l [])) (lifetime (lent i l []) false) char))) s a x k
       → Ran (lifetimeOr (lent i l []) char) s a x k
   past-two char r = ran-not-both char _ (naming (lent i l [])) (is 'single') e f (not-two (naming (lent i l []) c) d q) r
 
@@ -140,7 +140,7 @@ module _ (i l : List ℕ) {s : List ℕ} {a : Cursor} {c d : ℕ} (f : d ≡ get
   found-r {b} {r} h m g =
       let w : width c ≡ 1 = ap width h in
       let n : b .at ≡ a .at + 1 = bump-bytes e (omega arith) m ∙ ap (λ (k : ℕ). a .at + k) w in
-      found (past-moved (r .kind) (r .next) (g .past) m) (λ char. past-two char (ran-take (afterR i l) _ (is 'r') e (rw h) m (ran-word (g .ran) (shifted (r .kind) 1 1 a b (r .next) (g .past) n))))
+      found (past-moved (r .kind) (r .next) (g .past) m) (λ char. past-two char (ran-take (afterQuoteR (lent i l [])) _ (is 'r') e (rw h) m (ran-word (g .ran) (shifted (r .kind) 1 1 a b (r .next) (g .past) n))))
 
   -- a name, from its first character on
   named-on : {b : Cursor} {r : Scanned} (t : Bool) → 1 ≤ length (rest s a) → Moved s a b (drop 1 (rest s a)) → RestRan l t s b r → Ran (lifetime (lent i l []) t) s a (r .next) (kindFrom 1 a (r .kind))

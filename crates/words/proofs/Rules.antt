@@ -11,12 +11,10 @@ use Rattle.classes.specs.Emoji.{emojiChar}
 use Rattle.eaters.specs.Eat.{Eater, give, nothing, eat, while, _>>=_, _>>_}
 use Rattle.eaters.specs.Look.{ifAt}
 use Rattle.token.specs.declared.TokenKind.{TokenKind}
-use Rattle.token.specs.declared.TokenKind.the-variants.{Ident, InvalidIdent, UnknownPrefix, ForcedKeywordIdent}
-use Rattle.token.specs.Names.{is, '#'}
+use Rattle.token.specs.declared.TokenKind.the-variants.{Ident, InvalidIdent, UnknownPrefix}
 use Rattle.token.specs.Lists.{lent, starting, going, smiling}
 use Rattle.token.specs.Literals.{identifier}
 use Rattle.token.specs.Words.{inInvalid, invalidIdent, prefixMark, identOrUnknownPrefix}
-use Rattle.token.specs.Prefixed.{afterK}
 use Rattle.cursor.specs.declared.Cursor.{Cursor}
 use Rattle.cursor.specs.Cursors.{rest}
 use Rattle.cursor.specs.Moved.{Moved}
@@ -76,16 +74,3 @@ mark-double c e = rw e
 
 pub mark-single : (c : ℕ) → (c ≡ 0x23 → ⊥) → (c ≡ 0x22 → ⊥) → eqb c 0x27 ≡ prefixMark c
 mark-single c n m = rw (ne-eqb c 0x23 n, ne-eqb c 0x22 m)
-
--- after the letter k
-pub plain-in : (i l m : List ℕ) {s : List ℕ} {a n : Cursor} {x : TokenKind} {c : ℕ} → c ≡ getD (rest s a) 0 0 → (c ≡ 0x23 → ⊥) → Ran (identOrUnknownPrefix (lent [] l m)) s a n x → Ran (afterK (lent i l m)) s a n x
-plain-in i l m {s} {a} {c = c} e p r =
-    ran-not-both _ (identOrUnknownPrefix (lent i l m)) (is '#') (starting (lent i l m)) e refl (rw (ne-eqb c 0x23 p)) r
-
-module _ (i l m : List ℕ) {s : List ℕ} {a : Cursor} {c d : ℕ} {t : Bool} (e : c ≡ getD (rest s a) 0 0) (p : c ≡ 0x23) (f : d ≡ getD (rest s a) 1 0) (g : t ≡ idStart i d) where
-  pub forced-in : {b n : Cursor} → t ≡ true → Moved s a b (drop 1 (rest s a)) → Ran (identifier (lent i l [])) s b n tt → Ran (afterK (lent i l m)) s a n ForcedKeywordIdent
-  forced-in {b} {n} h k r =
-      ran-both (eat 1 >> identifier (lent i l m) >> give ForcedKeywordIdent) _ (is '#') (starting (lent i l m)) e f (rw (p, ← g, h)) (ran-then (ran-then (ran-eat k) r) (ran-give ForcedKeywordIdent s n))
-
-  pub unforced-in : {n : Cursor} {x : TokenKind} → t ≡ false → Ran (identOrUnknownPrefix (lent [] l m)) s a n x → Ran (afterK (lent i l m)) s a n x
-  unforced-in h r = ran-not-both _ (identOrUnknownPrefix (lent i l m)) (is '#') (starting (lent i l m)) e f (rw (p, ← g, h)) r

@@ -1,4 +1,4 @@
-// Identifiers, raw identifiers, forced keywords, prefixes and invalid identifiers, each proved equal to its rule in the book. Names are 000's.
+// Identifiers, prefixes, invalid identifiers and lifetimes, each proved equal to its rule in the book. Names are 000's.
 // A function that uses a lent list asks for one that was checked.
 ghost use mathlib.Core.Path.{_≡_};
 ghost use mathlib.Core.List.{[]};
@@ -8,8 +8,8 @@ ghost use Rattle.eaters.specs.Eat.{while};
 ghost use Rattle.token.specs.Lists.{lent};
 ghost use Rattle.token.specs.Literals.{identifier};
 ghost use Rattle.token.specs.Words.{inInvalid, invalidIdent, prefixMark, identOrUnknownPrefix};
-ghost use Rattle.token.specs.Prefixed.{afterK};
-ghost use Rattle.words.specs.Lives.{RestRan, rawName, RawRan, LifeRan};
+ghost use Rattle.token.specs.Lifetimes.{rawName};
+ghost use Rattle.words.specs.Lives.{RestRan, RawRan, LifeRan};
 ghost use Rattle.token.specs.declared.TokenKind.the-variants.{RawLifetime};
 ghost use Rattle.cursor.specs.Cursors.{rest};
 ghost use Rattle.cursor.specs.Moved.{Moved};
@@ -24,7 +24,7 @@ use token::LiteralKind;
 use token::TokenKind;
 
 // Past what goes on in an identifier.
-pub fn eat_continue(text: &[u8], from: Cursor, continues: &[u32]) -> Cursor
+fn eat_continue(text: &[u8], from: Cursor, continues: &[u32]) -> Cursor
     requires { ⌜ Good (now continues) ⌝ }
     ensures { λ r. ⌜ Moved (now (text .entry)) from r (left (while (idContinue (now (continues .entry)))) (rest (now (text .entry)) from)) ⌝ }
 {
@@ -135,25 +135,6 @@ pub fn ident_or_unknown_prefix(text: &[u8], from: Cursor, continues: &[u32], emo
     }
 }
 
-// What the letter k begins, after it: a forced keyword, or an identifier or an unknown prefix.
-pub fn after_k(text: &[u8], from: Cursor, starts: &[u32], continues: &[u32], emoji: &[u32]) -> Lexed
-    requires { ⌜ Good (now starts) × Good (now continues) × Good (now emoji) ⌝ }
-    ensures { λ r. ⌜ Ran (afterK (lent (now (starts .entry)) (now (continues .entry)) (now (emoji .entry)))) (now (text .entry)) from (r .next) (r .kind) ⌝ }
-{
-    let c = from.first(text);
-    if c != 0x23 {
-        return ident_or_unknown_prefix(text, from, continues, emoji);
-    }
-    let d = from.second(text);
-    if classes::id_start(d, starts) {
-        return Lexed {
-            kind: TokenKind::ForcedKeywordIdent,
-            next: eat_identifier(text, from.bump(text), starts, continues),
-        };
-    }
-    ident_or_unknown_prefix(text, from, continues, emoji)
-}
-
 // What stands after a quote: a lifetime, or a name that a quote closes; or neither, and it is a character literal.
 pub enum Life {
     Found(Scanned),
@@ -202,7 +183,7 @@ fn lifetime_rest(text: &[u8], from: Cursor, numbered: bool, continues: &[u32]) -
 // A raw lifetime, from its hash on: the hash, the start of an identifier and what goes on in it.
 fn raw_lifetime(text: &[u8], from: Cursor, continues: &[u32]) -> Cursor
     requires { ⌜ Good (now continues) ⌝ }
-    ensures { λ r. ⌜ Ran (rawName (now (continues .entry))) (now (text .entry)) from r RawLifetime ⌝ }
+    ensures { λ r. ⌜ Ran (rawName (lent [] (now (continues .entry)) [])) (now (text .entry)) from r RawLifetime ⌝ }
 {
     eat_continue(text, from.eat(text, 2), continues)
 }

@@ -7,8 +7,8 @@ use Rattle.advance.proofs.after_hash.Tie as tie
 first-requires : tie.Need-first-requires
 first-requires c κs = search needs
 
-is-guard-mark-requires : tie.Need-is-guard-mark-requires
-is-guard-mark-requires c κs = search needs
+is-hash-or-quote-requires : tie.Need-is-hash-or-quote-requires
+is-hash-or-quote-requires c κs = search needs
 
 bump-requires : tie.Need-bump-requires
 bump-requires c κs = search needs
@@ -25,4 +25,4 @@ returns-2 c = search hash-alone
 pub after-hash-spec : {M : Type 1} → statement M
 after-hash-spec =
     tie.close
-    (tie.spec first-requires is-guard-mark-requires bump-requires returns only-requires returns-2)
+    (tie.spec first-requires is-hash-or-quote-requires bump-requires returns only-requires returns-2)

@@ -23,9 +23,6 @@ after-r-requires c κs = search needs
 after-k-requires : tie.Need-after-k-requires
 after-k-requires c κs = search needs
 
-whole-requires-2 : tie.Need-whole-requires-2
-whole-requires-2 c κs = search needs
-
 after-b-requires : tie.Need-after-b-requires
 after-b-requires c κs = search needs
 
@@ -260,7 +257,6 @@ plain-spec =
     whole-requires
     after-r-requires
     after-k-requires
-    whole-requires-2
     after-b-requires
     after-c-requires
     after-hash-requires

@@ -1,6 +1,6 @@
 -- `exports::guarded_out` meets its contract. By its cases, with its numbers (Outs).
 use Rattle.exports.proofs.Outs.{by-case}
-use Rattle.lexer.specs.Guards.{guardedNumbers}
+use Rattle.strings.specs.Guards.{guardedNumbers}
 use Rattle.exports.specs.Guards.{guardedFrom}
 use borrow.Author.Needs.{needs}
 use Rattle.exports.proofs.guarded_out.Statement.{statement}

@@ -1,6 +1,6 @@
 -- `exports::raw_out` meets its contract. By its cases, with its numbers (Outs).
 use Rattle.exports.proofs.Outs.{by-case}
-use Rattle.lexer.specs.RawChecks.{rawNumbers}
+use Rattle.strings.specs.RawChecks.{rawNumbers}
 use Rattle.exports.specs.RawStrs.{rawFrom}
 use borrow.Author.Needs.{needs}
 use Rattle.exports.proofs.raw_out.Statement.{statement}

@@ -28,8 +28,8 @@ enum-told c = search needs
 returns : tie.Need-returns Inv-loop μ-loop
 returns c = search fencing-over
 
-eat-dashes-requires : tie.Need-eat-dashes-requires Inv-loop μ-loop
-eat-dashes-requires c κs = search needs
+eat-repeated-requires : tie.Need-eat-repeated-requires Inv-loop μ-loop
+eat-repeated-requires c κs = search needs
 
 returns-2 : tie.Need-returns-2 Inv-loop μ-loop
 returns-2 c = search fencing-found
@@ -57,7 +57,7 @@ find-fence-spec =
     enum-known-c
     enum-told
     returns
-    eat-dashes-requires
+    eat-repeated-requires
     returns-2
     loop-less
     loop-again

@@ -4,8 +4,8 @@ use borrow.Author.Needs.{needs}
 use Rattle.frontmatter.proofs.frontmatter.Statement.{statement}
 use Rattle.frontmatter.proofs.frontmatter.Tie as tie
 
-eat-dashes-requires : tie.Need-eat-dashes-requires
-eat-dashes-requires c κs = search needs
+eat-repeated-requires : tie.Need-eat-repeated-requires
+eat-repeated-requires c κs = search needs
 
 eat-blanks-requires : tie.Need-eat-blanks-requires
 eat-blanks-requires c κs = search needs
@@ -32,7 +32,7 @@ pub frontmatter-spec : {M : Type 1} → statement M
 frontmatter-spec =
     tie.close
     (tie.spec
-    eat-dashes-requires
+    eat-repeated-requires
     eat-blanks-requires
     eat-infostring-requires
     eat-blanks-requires-2

@@ -3,7 +3,7 @@ use Rattle.cursor.proofs.Moves.{fewer-1}
 use Rattle.cursor.proofs.Loops.{Eaten, eaten-none, eaten-on, eaten-off, eaten-over}
 use Rattle.cursor.specs.Cursors.{rest}
 use Rattle.token.specs.Lists.{lent}
-use Rattle.frontmatter.specs.Fences.{inInfostring}
+use Rattle.token.specs.Frontmatter.{inInfostring}
 use lib.ListN.{length}
 use mathlib.Core.List.{[]}
 use borrow.Author.Needs.{needs}

@@ -1,4 +1,4 @@
--- `frontmatter::starts_with` meets its contract. `Matching`: so many characters are there, and the others decide (Patterns). The measure is the number of those still to be compared.
+-- `frontmatter::starts_with` meets its contract. `Matching`: how many characters are there, and the others decide (Patterns). The measure is the number of those still to be compared.
 use Rattle.frontmatter.proofs.Patterns.{Matching, matching-none, matched, matching-over, matching-other, matching-on}
 use Prim.Native.Nat.{_-_}
 use lib.ListN.{length}

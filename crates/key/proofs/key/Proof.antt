@@ -1,5 +1,6 @@
 -- `key::key` meets its contract. What the verdict lets through, a broken token, and the room (Calls).
-use Rattle.key.proofs.Calls.{refused-in, measure-ready, broken-in, room-in, write-ready, keyed-in}
+use Rattle.lexer.proofs.Checks.{fine-checked}
+use Rattle.key.proofs.Calls.{refused-in, broken-in, room-in, write-ready, keyed-in}
 use borrow.Author.Needs.{needs}
 use Rattle.key.proofs.key.Statement.{statement}
 use Rattle.key.proofs.key.Tie as tie
@@ -17,7 +18,7 @@ enum-told : tie.Need-enum-told
 enum-told c = search needs
 
 measure-requires : tie.Need-measure-requires
-measure-requires c κs = measure-ready _ _ _ _ _ (c .before .before .token-verdict .ensures) (c .enum-told .given .1)
+measure-requires c κs = search fine-checked
 
 enum-known-at : tie.Need-enum-known-at
 enum-known-at c = search needs

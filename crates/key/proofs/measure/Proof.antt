@@ -8,13 +8,16 @@ use Rattle.key.proofs.measure.Statement.{statement}
 use Rattle.key.proofs.measure.Tie as tie
 
 abbrev Inv-loop : tie.InvT-loop
-Inv-loop text starts continues emoji n₀ at₀ gap₀ n at gap = Measured (lent starts continues emoji) text n at gap
+Inv-loop text starts continues emoji used₀ at₀ gap₀ used at gap = Measured (lent starts continues emoji) text used at gap
 
 abbrev μ-loop : tie.MeasureT-loop
-μ-loop text starts continues emoji n₀ at₀ gap₀ n at gap = length (chars (drop at text))
+μ-loop text starts continues emoji used₀ at₀ gap₀ used at gap = length (chars (drop at text))
 
 loop-holds : tie.Need-loop-holds Inv-loop μ-loop
 loop-holds c = measured-none _ _
+
+before-requires : tie.Need-before-requires Inv-loop μ-loop
+before-requires c κs = search needs
 
 step-requires : tie.Need-step-requires Inv-loop μ-loop
 step-requires c κs = search needs
@@ -34,8 +37,8 @@ cast-piece-bytes c = search needs
 piece-bytes-requires : tie.Need-piece-bytes-requires Inv-loop μ-loop
 piece-bytes-requires c κs = search needs
 
-add-n : tie.Need-add-n Inv-loop μ-loop
-add-n c = search measure-fits
+add-used : tie.Need-add-used Inv-loop μ-loop
+add-used c = search measure-fits
 
 loop-less : tie.Need-loop-less Inv-loop μ-loop
 loop-less c = search measured-less
@@ -53,13 +56,14 @@ measure-spec =
     Inv-loop
     μ-loop
     loop-holds
+    before-requires
     step-requires
     is-broken-requires
     returns
     is-trivia-requires
     cast-piece-bytes
     piece-bytes-requires
-    add-n
+    add-used
     loop-less
     loop-again
     returns-2)

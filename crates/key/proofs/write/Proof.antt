@@ -8,13 +8,16 @@ use Rattle.key.proofs.write.Statement.{statement}
 use Rattle.key.proofs.write.Tie as tie
 
 abbrev Inv-loop : tie.InvT-loop
-Inv-loop text starts continues emoji out₀ used₀ from₀ blank₀ out used from blank = Laying (lent starts continues emoji) text out₀ out used from blank
+Inv-loop text starts continues emoji out₀ used₀ at₀ gap₀ out used at gap = Laying (lent starts continues emoji) text out₀ out used at gap
 
 abbrev μ-loop : tie.MeasureT-loop
-μ-loop text starts continues emoji out₀ used₀ from₀ blank₀ out used from blank = length (chars (drop from text))
+μ-loop text starts continues emoji out₀ used₀ at₀ gap₀ out used at gap = length (chars (drop at text))
 
 loop-holds : tie.Need-loop-holds Inv-loop μ-loop
 loop-holds c = laying-none _ _ _
+
+before-requires : tie.Need-before-requires Inv-loop μ-loop
+before-requires c κs = search needs
 
 step-requires : tie.Need-step-requires Inv-loop μ-loop
 step-requires c κs = search needs
@@ -44,6 +47,7 @@ write-spec =
     Inv-loop
     μ-loop
     loop-holds
+    before-requires
     step-requires
     is-trivia-requires
     put-piece-requires

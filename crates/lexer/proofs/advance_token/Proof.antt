@@ -1,5 +1,5 @@
 -- `lexer::advance_token` meets its contract. What the verdict lets through, and the position (Checks).
-use Rattle.lexer.proofs.Checks.{step-ready, given-in, position-in, refused-in}
+use Rattle.lexer.proofs.Checks.{fine-checked, given-in, position-in, refused-in}
 use borrow.Author.Needs.{needs}
 use Rattle.lexer.proofs.advance_token.Statement.{statement}
 use Rattle.lexer.proofs.advance_token.Tie as tie
@@ -13,8 +13,11 @@ enum-told c = search needs
 starts-here-requires : tie.Need-starts-here-requires
 starts-here-requires c κs = search needs
 
+before-requires : tie.Need-before-requires
+before-requires c κs = search needs
+
 step-requires : tie.Need-step-requires
-step-requires c κs = step-ready _ _ _ _ _ (c .before .before .before .before .token-verdict .ensures) (c .before .before .enum-told .given .1)
+step-requires c κs = search fine-checked
 
 returns : tie.Need-returns
 returns c = search given-in
@@ -35,6 +38,7 @@ advance-token-spec =
     token-verdict-requires
     enum-told
     starts-here-requires
+    before-requires
     step-requires
     returns
     enum-known-bad

@@ -10,8 +10,8 @@ new-requires c κs = search needs
 peek-requires : tie.Need-peek-requires
 peek-requires c κs = search needs
 
-enum-known-c : tie.Need-enum-known-c
-enum-known-c c = search needs
+enum-known-first : tie.Need-enum-known-first
+enum-known-first c = search needs
 
 enum-told : tie.Need-enum-told
 enum-told c = search needs
@@ -46,7 +46,7 @@ step-spec =
     (tie.spec
     new-requires
     peek-requires
-    enum-known-c
+    enum-known-first
     enum-told
     returns
     advance-token-requires

@@ -1,6 +1,7 @@
 -- `lexer::token_numbers` meets its contract. By its cases (Numbering).
 use Rattle.lexer.specs.Answers.{tokenNumbers}
-use Rattle.lexer.proofs.Numbering.{of-case, token-on, token-off}
+use Rattle.refusal.proofs.Handing.{of-case}
+use Rattle.lexer.proofs.Numbering.{token-on, token-off}
 use borrow.Author.Needs.{needs}
 use Rattle.lexer.proofs.token_numbers.Statement.{statement}
 use Rattle.lexer.proofs.token_numbers.Tie as tie

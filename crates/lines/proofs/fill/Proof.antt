@@ -7,10 +7,13 @@ use Rattle.lines.proofs.fill.Statement.{statement}
 use Rattle.lines.proofs.fill.Tie as tie
 
 abbrev Inv-loop : tie.InvT-loop
-Inv-loop text at out₀ next₀ used₀ out next used = Filling text at out₀ out next used
+Inv-loop text at out₀ scan₀ used₀ out scan used = Filling text at out₀ out scan used
 
 abbrev μ-loop : tie.MeasureT-loop
-μ-loop text at out₀ next₀ used₀ out next used = length (chars (drop next text))
+μ-loop text at out₀ scan₀ used₀ out scan used = length (chars (drop (scan .next) text))
+
+before-requires : tie.Need-before-requires Inv-loop μ-loop
+before-requires c κs = search needs
 
 loop-holds : tie.Need-loop-holds Inv-loop μ-loop
 loop-holds c = search filling-starts
@@ -18,8 +21,8 @@ loop-holds c = search filling-starts
 sub-loop : tie.Need-sub-loop Inv-loop μ-loop
 sub-loop c = search needs
 
-token-at-requires : tie.Need-token-at-requires Inv-loop μ-loop
-token-at-requires c κs = search needs
+step-requires : tie.Need-step-requires Inv-loop μ-loop
+step-requires c κs = search needs
 
 put-line-requires : tie.Need-put-line-requires Inv-loop μ-loop
 put-line-requires c κs = search needs
@@ -48,9 +51,10 @@ fill-spec =
     (tie.spec
     Inv-loop
     μ-loop
+    before-requires
     loop-holds
     sub-loop
-    token-at-requires
+    step-requires
     put-line-requires
     loop-less
     loop-again

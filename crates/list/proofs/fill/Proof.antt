@@ -1,4 +1,4 @@
--- `list::fill` meets its contract. A walk of its code, with a loop: in each turn a call moves the scan on, and its token is stored. All that the proof knows of `next` is its contract.
+-- `list::fill` meets its contract. A walk of its code, with a loop: in each turn a call moves the scan on, and its token is stored. All that the proof knows of `lexer::step` is its contract.
 use mathlib.Core.Path.{_≡_, refl, sym, _∙_, ap, subst}
 use Prim.Native.Nat.{ℕ, zero, suc, _+_, _*_, _^_, _<_, _≤_}
 use native.Mathlib.Nat.{le-of-lt, mul-le-mul-right}
@@ -49,16 +49,17 @@ use denote.Triple.Walked.{says, needs, Stays, stay-none, stay-none-slice, stay-s
 use denote.Exit.{yes}
 use Rattle.token.specs.declared.Token.{Token}
 use Rattle.lexer.specs.declared.Scan.{Scan}
-use Rattle.plan.specs.Steps.{Checked, nextOf}
+use Rattle.lexer.specs.Checked.{Checked}
+use Rattle.lexer.specs.Steps.{nextOf}
 use Rattle.list.proofs.Lent.{Refs, Lfts4, Shares4, bytesOf, listsOf, sv, Lent, Toks, dup, filled, filled-is}
 use Rattle.token.proofs.Token as T
 use Rattle.token.proofs.Token.Laws as T′
 use Rattle.lexer.proofs.Scan as S
 use Rattle.lexer.proofs.Scan.Laws as S′
-use Rattle.plan.proofs.next as next
-use Rattle.plan.proofs.next.Symbol as next-def
-use Rattle.plan.proofs.next.Symbol.{name as #plan·next}
-use Rattle.plan.proofs.next.Met as next-thm
+use Rattle.lexer.proofs.step as step
+use Rattle.lexer.proofs.step.Symbol as step-def
+use Rattle.lexer.proofs.step.Symbol.{name as #lexer·step}
+use Rattle.lexer.proofs.step.Met as step-thm
 use Rattle.list.proofs.fill.Key.{name as #list·fill}
 use Rattle.list.proofs.fill as fill
 use Rattle.list.proofs.fill.Statement as stated
@@ -144,8 +145,8 @@ outTy = sliceTy (tyRef (named 4) mut (pointee (T.the-row .written)))
 
 module _ {M : Type 1} (𝓤 : URA M) (H : Heap 𝓤) (A : Atoms 𝓤) (mem : Memory → SProp 𝓤) (run : Routine → Fun 𝓤) where
   -- the contract that the proof cites
-  abbrev Next : Contract 𝓤
-  Next = tripleOf 𝓤 H A next.signature (next.spec 𝓤 H A mem run)
+  abbrev Step : Contract 𝓤
+  Step = tripleOf 𝓤 H A step.signature (step.spec 𝓤 H A mem run)
 
 module _ {M : Type 1} (𝓤 : URA M) (H : Heap 𝓤) (A : Atoms 𝓤) (W : Given 𝓤 H A) (mem : Memory → SProp 𝓤) (run : Routine → Fun 𝓤) (ks : Lfts4) (κ : Lft) (qs : Shares4) (q : Share)
     (xs : Refs) (s : Scan) (b o : ℕ) (γ : GName) (ys : List Token) (n : ℕ)
@@ -206,17 +207,17 @@ module _ {M : Type 1} (𝓤 : URA M) (H : Heap 𝓤) (A : Atoms 𝓤) (W : Given
     abbrev passed : RefT (List ℕ) × (RefT (List ℕ) × (RefT (List ℕ) × (RefT (List ℕ) × (Scan × Unit {0}))))
     passed = (xs .0, (xs .1 .0, (xs .1 .1 .0, (xs .1 .1 .1, (c, tt)))))
 
-    abbrev to : Next 𝓤 H A mem run .Ghost
+    abbrev to : Step 𝓤 H A mem run .Ghost
     to = ((κs′, (qs .0, (qs .1 .0, (qs .1 .1 .0, (qs .1 .1 .1, tt)))), tt, passed, (sv (xs .0) ∷ [], (sv (xs .1 .0) ∷ [], (sv (xs .1 .1 .0) ∷ [], (sv (xs .1 .1 .1) ∷ [], (svals c, tt)))))), tt)
 
-    asked : Is S.the-row c (svals c) → Checked (bytesOf xs) (listsOf xs) → ent 𝓤 (⋆ 𝓤 H A (‵ (Lent ks xs) ∷ Toks ks qs ∷ [])) (Next 𝓤 H A mem run .pre to)
+    asked : Is S.the-row c (svals c) → Checked (bytesOf xs) (listsOf xs) → ent 𝓤 (⋆ 𝓤 H A (‵ (Lent ks xs) ∷ Toks ks qs ∷ [])) (Step 𝓤 H A mem run .pre to)
     asked is ok =
         qed W (‵ (Lent ks xs) ∷ Toks ks qs ∷ []) ∵ says ! ok $ move ! (1 ∷ 0 ∷ []) $ frame ! $
         nothing ! $ owned ! S.the-row (Is S.the-row) (LL.makes S.the-type S′.the-plain 𝓤 H A) c _ is $ fjoin ! $
         move ! (1 ∷ []) $ fsplit ! $ move ! (1 ∷ []) $ fsplit ! $ move ! (1 ∷ []) $ fsplit ! $ move ! (1 ∷ 4 ∷ []) $ fjoin ! $ move ! (1 ∷ 0 ∷ []) $ fjoin ! $ move ! (1 ∷ 0 ∷ []) $ fjoin ! $ move ! (1 ∷ 0 ∷ []) $ fjoin ! $ done !
 
-    said : (r : Scan) → ent 𝓤 (ensured 𝓤 H A next.ended (next.clauses 𝓤 H A mem run) κs′ passed tt r) (fact 𝓤 (r ≡ nextOf (listsOf xs) (bytesOf xs) c))
-    said r = exE 𝓤 _ (λ ws. snd∗ 𝓤 (sem 𝓤 H A (lasts next.ended κs′ passed ws)) (fact 𝓤 (r ≡ nextOf (listsOf xs) (bytesOf xs) c)))
+    said : (r : Scan) → ent 𝓤 (ensured 𝓤 H A step.ended (step.clauses 𝓤 H A mem run) κs′ passed tt r) (fact 𝓤 (r ≡ nextOf (listsOf xs) (bytesOf xs) c))
+    said r = exE 𝓤 _ (λ ws. snd∗ 𝓤 (sem 𝓤 H A (lasts step.ended κs′ passed ws)) (fact 𝓤 (r ≡ nextOf (listsOf xs) (bytesOf xs) c)))
 
   -- ---- the loop
   abbrev Facts : ℕ → ℕ → Scan → List Token → Type 0
@@ -232,7 +233,7 @@ module _ {M : Type 1} (𝓤 : URA M) (H : Heap 𝓤) (A : Atoms 𝓤) (W : Given
   Less-wf : WellFounded Less
   Less-wf = InvImage·wf (λ (y : St). y .0) (Nat·lt-wfRel .wf)
 
-  module _ (𝓣 : Tables 𝓤 H) (known : Triple 𝓤 (𝓣 .C #plan·next) (Next 𝓤 H A mem run)) (l₀ l₁ l₂ l₃ l₄ l₅ l₆ l₇ l₈ l₉ l₁₀ l₁₁ l₁₂ : ℕ) where
+  module _ (𝓣 : Tables 𝓤 H) (known : Triple 𝓤 (𝓣 .C #lexer·step) (Step 𝓤 H A mem run)) (l₀ l₁ l₂ l₃ l₄ l₅ l₆ l₇ l₈ l₉ l₁₀ l₁₁ l₁₂ : ℕ) where
     abbrev C : Calls 𝓤 H
     C = 𝓣 .C
 
@@ -275,11 +276,11 @@ module _ {M : Type 1} (𝓤 : URA M) (H : Heap 𝓤) (A : Atoms 𝓤) (W : Given
         -- the call: of what is lent a copy is kept
         move ! (3 ∷ []) $ use1 W (‵ (Lent ks xs) ⊛ ‵ (Lent ks xs)) (dup 𝓤 H A W ks xs) $ split ! $
         -- [what is lent; again; obs; the borrow; κ; the tokens; _9; _8; …]
-        move ! (0 ∷ 5 ∷ []) $ use2 W (raw (Next 𝓤 H A mem run .pre (to c))) (asked c (f .1 .1 .1) (ready (some-left i n less))) $
+        move ! (0 ∷ 5 ∷ []) $ use2 W (raw (Step 𝓤 H A mem run .pre (to c))) (asked c (f .1 .1 .1) (ready (some-left i n less))) $
         -- [what is asked; what is lent; obs; the borrow; κ; _9; _8; _10; _11; _12; _1; _2; _3; _4; …]
-        calls-at ! (fmOf 𝓤 H (W .laws) 𝓣) (Next 𝓤 H A mem run) known (to c)
+        calls-at ! (fmOf 𝓤 H (W .laws) 𝓣) (Step 𝓤 H A mem run) known (to c)
         (and-then ! (load ! (from ! (stop !)) (look ! 10 refl)) (and-then ! (load ! (from ! (stop !)) (look ! 11 refl)) (and-then ! (load ! (from ! (stop !)) (look ! 12 refl)) (and-then ! (load ! (from ! (stop !)) (look ! 13 refl)) (and-then ! (load ! (from ! (stop !)) (look ! 6 refl)) (no-more !)))))) (λ u.
-        use1 W (later (some (λ (r : Scan). (Toks ks qs ⊛ ‵ (S.the-row .own r (u ∷ []))) ⊛ raw (ensured 𝓤 H A next.ended (next.clauses 𝓤 H A mem run) κs′ (passed c) tt r)))) (id⊢ 𝓤 _) $ await ! tt $ pick ! (λ r.
+        use1 W (later (some (λ (r : Scan). (Toks ks qs ⊛ ‵ (S.the-row .own r (u ∷ []))) ⊛ raw (ensured 𝓤 H A step.ended (step.clauses 𝓤 H A mem run) κs′ (passed c) tt r)))) (id⊢ 𝓤 _) $ await ! tt $ pick ! (λ r.
         split ! $ move ! (1 ∷ []) $ use1 W (raw (fact 𝓤 (r ≡ d))) (said c r) $ heard ! (r ≡ d) (λ e. split ! $ move ! (1 ∷ []) $
         peeks ! S.the-row (Is S.the-row) (shows 𝓤 H A S.the-row) r (u ∷ []) (λ is. drop ! $
         -- [the tokens; what is lent; obs; the borrow; κ; _9; _8; _10; _11; _12; _1; …]
@@ -325,7 +326,7 @@ module _ {M : Type 1} (𝓤 : URA M) (H : Heap 𝓤) (A : Atoms 𝓤) (W : Given
         t-typed : Is T.the-row (d .token) (tvals (d .token)) → Holds (hasTy T′.mir (tval (d .token))) × WT (tval (d .token))
         t-typed g = LL.lawful T.the-type T′.the-laws 𝓤 H A W .typed (d .token) _ g .0
 
-  module _ (𝓣 : Tables 𝓤 H) (known : Triple 𝓤 (𝓣 .C #plan·next) (Next 𝓤 H A mem run)) where
+  module _ (𝓣 : Tables 𝓤 H) (known : Triple 𝓤 (𝓣 .C #lexer·step) (Step 𝓤 H A mem run)) where
     abbrev mach : List Val
     mach = sv (xs .0) ∷ sv (xs .1 .0) ∷ sv (xs .1 .1 .0) ∷ sv (xs .1 .1 .1) ∷ sval s ∷ ov ∷ vint w64 n ∷ []
 
@@ -333,7 +334,7 @@ module _ {M : Type 1} (𝓤 : URA M) (H : Heap 𝓤) (A : Atoms 𝓤) (W : Given
     walk =
         qed W ((‵ (flft (ks .0) (qs .0)) ⊛ (‵ (flft (ks .1 .0) (qs .1 .0)) ⊛ (‵ (flft (ks .1 .1 .0) (qs .1 .1 .0)) ⊛ (‵ (flft (ks .1 .1 .1) (qs .1 .1 .1)) ⊛ (‵ (flft κ q) ⊛ ‵ ftrue)))))
         ∷ ‵ (owns (ShrSlice (named 0) (ks .0) u8 ∷ ShrSlice (named 1) (ks .1 .0) u32 ∷ ShrSlice (named 2) (ks .1 .1 .0) u32 ∷ ShrSlice (named 3) (ks .1 .1 .1) u32 ∷ S.the-row ∷ MutSlice (named 4) κ T.the-row ∷ usize ∷ []) a at) ∷ []) ∵
-        -- the tokens are parted, and what is owned is grouped, before any local is allocated
+        -- the tokens are separated, and what is owned is grouped, before any local is allocated
         split ! $ move ! (1 ∷ []) $ split ! $ move ! (1 ∷ []) $ split ! $ move ! (1 ∷ []) $ split ! $ move ! (1 ∷ []) $ split ! $
         -- [κ; true; k₃; k₂; k₁; k₀; what is owned]
         move ! (2 ∷ 1 ∷ []) $ join ! $ move ! (2 ∷ 0 ∷ []) $ join ! $ move ! (2 ∷ 0 ∷ []) $ join ! $ move ! (2 ∷ 0 ∷ []) $ join ! $
@@ -358,7 +359,7 @@ module _ {M : Type 1} (𝓤 : URA M) (H : Heap 𝓤) (A : Atoms 𝓤) (W : Given
         s-typed = LL.lawful S.the-type S′.the-laws 𝓤 H A W .typed s _ s-is .0
 
 module _ {M : Type 1} (𝓤 : URA M) (H : Heap 𝓤) (A : Atoms 𝓤) (W : Given 𝓤 H A) (mem : Memory → SProp 𝓤) (run : Routine → Fun 𝓤) where
-  fill-walks : (𝓣 : Tables 𝓤 H) → Triple 𝓤 (𝓣 .C #plan·next) (Next 𝓤 H A mem run) → Walks 𝓤 H A fill.ended stayed (WpFn 𝓤 H (𝓣 .C) (𝓣 .Λ) code.function) (fill.clauses 𝓤 H A mem run)
+  fill-walks : (𝓣 : Tables 𝓤 H) → Triple 𝓤 (𝓣 .C #lexer·step) (Step 𝓤 H A mem run) → Walks 𝓤 H A fill.ended stayed (WpFn 𝓤 H (𝓣 .C) (𝓣 .Λ) code.function) (fill.clauses 𝓤 H A mem run)
   fill-walks 𝓣 known = walked 𝓤 H A fill.ended stayed (fill.clauses 𝓤 H A mem run) (WpFn 𝓤 H (𝓣 .C) (𝓣 .Λ) code.function)
       (λ κs. (slice-vals, (slice-vals, (slice-vals, (slice-vals, (svals, (slice-vals, (uint-vals w64, tt))))))))
       (λ κs. (shr-slice-tells (named 0) (κs .0) u8, (shr-slice-tells (named 1) (κs .1 .0) u32, (shr-slice-tells (named 2) (κs .1 .1 .0) u32, (shr-slice-tells (named 3) (κs .1 .1 .1 .0) u32, (LL.tells S.the-type S′.the-laws, (mut-slice-tells (named 4) (κs .1 .1 .1 .1 .0) T.the-row, (uint-tells w64, tt))))))))
@@ -367,7 +368,7 @@ module _ {M : Type 1} (𝓤 : URA M) (H : Heap 𝓤) (A : Atoms 𝓤) (W : Given
       (a .0, (a .1 .0, (a .1 .1 .0, a .1 .1 .1 .0))) (a .1 .1 .1 .1 .0) (a .1 .1 .1 .1 .1 .0 .ptr .0) (a .1 .1 .1 .1 .1 .0 .ptr .1) (a .1 .1 .1 .1 .1 .0 .name) (a .1 .1 .1 .1 .1 .0 .now) (a .1 .1 .1 .1 .1 .1 .0)
       (are .0 .0 .1) (are .1 .0 .0 .1) (are .1 .1 .0 .0 .1) (are .1 .1 .1 .0 .0 .1) (are .1 .1 .1 .1 .0) (are .1 .1 .1 .1 .1 .0 .0 .1) (are .1 .1 .1 .1 .1 .1 .0 .1) (h .0) (h .1) 𝓣 known))
 
-fill-meets : {M : Type 1} (𝓤 : URA M) (H : Heap 𝓤) (A : Atoms 𝓤) → Given 𝓤 H A → (mem : Memory → SProp 𝓤) (run : Routine → Fun 𝓤) (𝓣 : Tables 𝓤 H) → Triple 𝓤 (𝓣 .C #plan·next) (Next 𝓤 H A mem run)
+fill-meets : {M : Type 1} (𝓤 : URA M) (H : Heap 𝓤) (A : Atoms 𝓤) → Given 𝓤 H A → (mem : Memory → SProp 𝓤) (run : Routine → Fun 𝓤) (𝓣 : Tables 𝓤 H) → Triple 𝓤 (𝓣 .C #lexer·step) (Step 𝓤 H A mem run)
     → Meets 𝓤 H A fill.signature (WpFn 𝓤 H (𝓣 .C) (𝓣 .Λ) code.function) (fill.spec 𝓤 H A mem run)
 fill-meets 𝓤 H A W mem run 𝓣 known =
     walk-meets 𝓤 H A fill.ended stayed W (
@@ -391,4 +392,4 @@ fill-spec 𝓤 H 𝓜 𝓖 𝓡 =
     entered 𝓤 H (tripleOf 𝓤 H (𝓖 .A) fill.signature (fill.spec 𝓤 H (𝓖 .A) (𝓜 .mem) (𝓡 .run)))
     (tables 𝓤 H 𝓜 𝓡 code.env .C) (tables 𝓤 H 𝓜 𝓡 code.env .Λ) #list·fill code.function (code.unfolded 𝓤 H 𝓜 𝓡)
     (fill-meets 𝓤 H (𝓖 .A) (givenOf 𝓤 H 𝓜 𝓖) (𝓜 .mem) (𝓡 .run) (tablesOf 𝓤 H 𝓜 (tables 𝓤 H 𝓜 𝓡 code.env))
-    (cited 𝓤 H (Next 𝓤 H (𝓖 .A) (𝓜 .mem) (𝓡 .run)) 𝓜 𝓡 code.env #plan·next next-def.routine code.calls-plan·next (next-thm.met 𝓤 H 𝓜 𝓖 𝓡)))
+    (cited 𝓤 H (Step 𝓤 H (𝓖 .A) (𝓜 .mem) (𝓡 .run)) 𝓜 𝓡 code.env #lexer·step step-def.routine code.calls-lexer·step (step-thm.met 𝓤 H 𝓜 𝓖 𝓡)))

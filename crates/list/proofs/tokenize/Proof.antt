@@ -48,7 +48,7 @@ use Rattle.token.specs.declared.Token.{Token}
 use Rattle.token.specs.Tokens.{records}
 use Rattle.plan.specs.declared.ListAnswer.{ListAnswer}
 use Rattle.plan.specs.declared.Plan.{Plan}
-use Rattle.plan.specs.Steps.{following}
+use Rattle.lexer.specs.Steps.{following}
 use Rattle.plan.specs.Answers.{listAnswer, listed}
 use Rattle.plan.specs.Plans.{planOf}
 use Rattle.plan.proofs.Planning.{plan-room, plan-ready, plan-listed}
@@ -240,7 +240,7 @@ module _ {M : Type 1} (𝓤 : URA M) (H : Heap 𝓤) (A : Atoms 𝓤) (W : Given
     walk : ent 𝓤 (onEntry 𝓤 H A tokenize.signature κs shares a at) (WpFn 𝓤 H (𝓣 .C) (𝓣 .Λ) code.function mach Post)
     walk =
         qed W (Toks5 ∷ ‵ (owns (ShrSlice (named 0) (ks .0) u8 ∷ ShrSlice (named 1) (ks .1 .0) u32 ∷ ShrSlice (named 2) (ks .1 .1 .0) u32 ∷ ShrSlice (named 3) (ks .1 .1 .1) u32 ∷ bool ∷ MutSlice (named 4) κ T.the-row ∷ []) a at) ∷ []) ∵
-        -- the tokens are parted, and what is owned is grouped, before any local is allocated
+        -- the tokens are separated, and what is owned is grouped, before any local is allocated
         split ! $ move ! (1 ∷ []) $ split ! $ move ! (1 ∷ []) $ split ! $ move ! (1 ∷ []) $ split ! $ move ! (1 ∷ []) $ split ! $
         -- [κ; true; k₃; k₂; k₁; k₀; what is owned]
         move ! (2 ∷ 1 ∷ []) $ join ! $ move ! (2 ∷ 0 ∷ []) $ join ! $ move ! (2 ∷ 0 ∷ []) $ join ! $ move ! (2 ∷ 0 ∷ []) $ join ! $

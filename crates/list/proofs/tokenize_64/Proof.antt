@@ -148,7 +148,7 @@ module _ {M : Type 1} (𝓤 : URA M) (H : Heap 𝓤) (A : Atoms 𝓤) (W : Given
       use1 W (‵ (arr-parts (shares T.the-row) cap .part fullShare (replicate cap t) l 0)) (array-apart 𝓤 H A W T.the-row fullShare tt cap (replicate cap t) l 0) $ fsplit ! $ drop ! $
       by ! (whole-in 𝓤 H A W T.the-row (replicate cap t) l 0)
 
-  -- and back, at a machine value that is told
+  -- and back, at a machine value that is given
   back-local : (zs : List Token) (l : ℕ) → ent 𝓤 (sem 𝓤 H A (Arr (in-memory T.the-row) cap .lies zs l 0)) (ex 𝓤 (λ (v : Val). sep 𝓤 (H .at fullShare arrTy l 0 v) (fact 𝓤 (Is (Array T.the-row cap) zs (v ∷ [])))))
   unfolding partOf
   back-local zs l =

@@ -10,8 +10,8 @@ first-requires c κs = search needs
 is-digit-requires : tie.Need-is-digit-requires
 is-digit-requires c κs = search needs
 
-eat-decimal-digits-requires : tie.Need-eat-decimal-digits-requires
-eat-decimal-digits-requires c κs = search needs
+eat-digits-requires : tie.Need-eat-digits-requires
+eat-digits-requires c κs = search needs
 
 maybe-exponent-requires : tie.Need-maybe-exponent-requires
 maybe-exponent-requires c κs = search needs
@@ -28,7 +28,7 @@ after-point-spec =
     (tie.spec
     first-requires
     is-digit-requires
-    eat-decimal-digits-requires
+    eat-digits-requires
     maybe-exponent-requires
     returns
     returns-2)

@@ -4,8 +4,8 @@ use borrow.Author.Needs.{needs}
 use Rattle.numerals.proofs.based.Statement.{statement}
 use Rattle.numerals.proofs.based.Tie as tie
 
-eat-decimal-digits-requires : tie.Need-eat-decimal-digits-requires
-eat-decimal-digits-requires c κs = search needs
+eat-digits-requires : tie.Need-eat-digits-requires
+eat-digits-requires c κs = search needs
 
 after-digits-requires : tie.Need-after-digits-requires
 after-digits-requires c κs = search needs
@@ -14,4 +14,4 @@ returns : tie.Need-returns
 returns c = search based-in
 
 pub based-spec : {M : Type 1} → statement M
-based-spec = tie.close (tie.spec eat-decimal-digits-requires after-digits-requires returns)
+based-spec = tie.close (tie.spec eat-digits-requires after-digits-requires returns)

@@ -4,8 +4,8 @@ use borrow.Author.Needs.{needs}
 use Rattle.numerals.proofs.decimal.Statement.{statement}
 use Rattle.numerals.proofs.decimal.Tie as tie
 
-eat-decimal-digits-requires : tie.Need-eat-decimal-digits-requires
-eat-decimal-digits-requires c κs = search needs
+eat-digits-requires : tie.Need-eat-digits-requires
+eat-digits-requires c κs = search needs
 
 fraction-requires : tie.Need-fraction-requires
 fraction-requires c κs = search needs
@@ -14,4 +14,4 @@ returns : tie.Need-returns
 returns c = search decimal-in
 
 pub decimal-spec : {M : Type 1} → statement M
-decimal-spec = tie.close (tie.spec eat-decimal-digits-requires fraction-requires returns)
+decimal-spec = tie.close (tie.spec eat-digits-requires fraction-requires returns)

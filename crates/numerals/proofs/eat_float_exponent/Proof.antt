@@ -7,8 +7,8 @@ use Rattle.numerals.proofs.eat_float_exponent.Tie as tie
 eat-sign-requires : tie.Need-eat-sign-requires
 eat-sign-requires c κs = search needs
 
-eat-decimal-digits-requires : tie.Need-eat-decimal-digits-requires
-eat-decimal-digits-requires c κs = search needs
+eat-digits-requires : tie.Need-eat-digits-requires
+eat-digits-requires c κs = search needs
 
 returns : tie.Need-returns
 returns c = search exponent-some
@@ -18,4 +18,4 @@ returns-2 c = search exponent-none
 
 pub eat-float-exponent-spec : {M : Type 1} → statement M
 eat-float-exponent-spec =
-    tie.close (tie.spec eat-sign-requires eat-decimal-digits-requires returns returns-2)
+    tie.close (tie.spec eat-sign-requires eat-digits-requires returns returns-2)

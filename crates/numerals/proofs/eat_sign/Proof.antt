@@ -1,5 +1,5 @@
 -- `numerals::eat_sign` meets its contract. The rule, by the next character (Rules).
-use Rattle.numerals.proofs.Rules.{minus-in, plus-in, unsigned-in}
+use Rattle.numerals.proofs.Rules.{signed-in, unsigned-in}
 use borrow.Author.Needs.{needs}
 use Rattle.numerals.proofs.eat_sign.Statement.{statement}
 use Rattle.numerals.proofs.eat_sign.Tie as tie
@@ -11,17 +11,10 @@ bump-requires : tie.Need-bump-requires
 bump-requires c κs = search needs
 
 returns : tie.Need-returns
-returns c = search minus-in
-
-bump-requires-2 : tie.Need-bump-requires-2
-bump-requires-2 c κs = search needs
+returns c = search signed-in
 
 returns-2 : tie.Need-returns-2
-returns-2 c = search plus-in
-
-returns-3 : tie.Need-returns-3
-returns-3 c = search unsigned-in
+returns-2 c = search unsigned-in
 
 pub eat-sign-spec : {M : Type 1} → statement M
-eat-sign-spec =
-    tie.close (tie.spec first-requires bump-requires returns bump-requires-2 returns-2 returns-3)
+eat-sign-spec = tie.close (tie.spec first-requires bump-requires returns returns-2)

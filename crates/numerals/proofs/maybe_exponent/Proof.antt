@@ -1,5 +1,5 @@
 -- `numerals::maybe_exponent` meets its contract. The rule, by the next character (Rules).
-use Rattle.numerals.proofs.Rules.{small-e, capital-e, no-e}
+use Rattle.numerals.proofs.Rules.{some-e, no-e}
 use borrow.Author.Needs.{needs}
 use Rattle.numerals.proofs.maybe_exponent.Statement.{statement}
 use Rattle.numerals.proofs.maybe_exponent.Tie as tie
@@ -14,29 +14,11 @@ eat-float-exponent-requires : tie.Need-eat-float-exponent-requires
 eat-float-exponent-requires c κs = search needs
 
 returns : tie.Need-returns
-returns c = search small-e
-
-bump-requires-2 : tie.Need-bump-requires-2
-bump-requires-2 c κs = search needs
-
-eat-float-exponent-requires-2 : tie.Need-eat-float-exponent-requires-2
-eat-float-exponent-requires-2 c κs = search needs
+returns c = search some-e
 
 returns-2 : tie.Need-returns-2
-returns-2 c = search capital-e
-
-returns-3 : tie.Need-returns-3
-returns-3 c = search no-e
+returns-2 c = search no-e
 
 pub maybe-exponent-spec : {M : Type 1} → statement M
 maybe-exponent-spec =
-    tie.close
-    (tie.spec
-    first-requires
-    bump-requires
-    eat-float-exponent-requires
-    returns
-    bump-requires-2
-    eat-float-exponent-requires-2
-    returns-2
-    returns-3)
+    tie.close (tie.spec first-requires bump-requires eat-float-exponent-requires returns returns-2)

@@ -34,8 +34,8 @@ returns-3 c = search octal-in
 bump-requires-3 : tie.Need-bump-requires-3
 bump-requires-3 c κs = search needs
 
-hexadecimal-requires : tie.Need-hexadecimal-requires
-hexadecimal-requires c κs = search needs
+based-requires-3 : tie.Need-based-requires-3
+based-requires-3 c κs = search needs
 
 returns-4 : tie.Need-returns-4
 returns-4 c = search hexadecimal-in
@@ -60,7 +60,7 @@ number-spec =
     based-requires-2
     returns-3
     bump-requires-3
-    hexadecimal-requires
+    based-requires-3
     returns-4
     decimal-requires-2
     returns-5)

@@ -8,13 +8,16 @@ use Rattle.plan.proofs.count.Statement.{statement}
 use Rattle.plan.proofs.count.Tie as tie
 
 abbrev Inv-loop : tie.InvT-loop
-Inv-loop text starts continues emoji on n₀ at₀ flag₀ n at flag = Counted (lent starts continues emoji) text on n at flag
+Inv-loop text starts continues emoji on n₀ scan₀ n scan = Counted (lent starts continues emoji) text on n scan
 
 abbrev μ-loop : tie.MeasureT-loop
-μ-loop text starts continues emoji on n₀ at₀ flag₀ n at flag = length (chars (drop at text))
+μ-loop text starts continues emoji on n₀ scan₀ n scan = length (chars (drop (scan .next) text))
+
+start-requires : tie.Need-start-requires Inv-loop μ-loop
+start-requires c κs = search needs
 
 loop-holds : tie.Need-loop-holds Inv-loop μ-loop
-loop-holds c = counted-none _ _ _
+loop-holds c = search counted-none
 
 step-requires : tie.Need-step-requires Inv-loop μ-loop
 step-requires c κs = search needs
@@ -34,4 +37,4 @@ returns c = search counted-all
 pub count-spec : {M : Type 1} → statement M
 count-spec =
     tie.close
-    (tie.spec Inv-loop μ-loop loop-holds step-requires add-n loop-less loop-again returns)
+    (tie.spec Inv-loop μ-loop start-requires loop-holds step-requires add-n loop-less loop-again returns)

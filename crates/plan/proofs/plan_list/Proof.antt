@@ -1,5 +1,6 @@
 -- `plan::plan_list` meets its contract. What the verdict lets through, and the room (Planning).
-use Rattle.plan.proofs.Planning.{count-ready, listed-in, slots-in, refused-in}
+use Rattle.lexer.proofs.Checks.{fine-checked}
+use Rattle.plan.proofs.Planning.{listed-in, slots-in, refused-in}
 use borrow.Author.Needs.{needs}
 use Rattle.plan.proofs.plan_list.Statement.{statement}
 use Rattle.plan.proofs.plan_list.Tie as tie
@@ -11,7 +12,7 @@ enum-told : tie.Need-enum-told
 enum-told c = search needs
 
 count-requires : tie.Need-count-requires
-count-requires c κs = count-ready _ _ _ _ _ (c .before .before .token-verdict .ensures) (c .enum-told .given .1)
+count-requires c κs = search fine-checked
 
 planned-requires : tie.Need-planned-requires
 planned-requires c κs = search needs

@@ -4,8 +4,8 @@ use borrow.Author.Needs.{needs}
 use Rattle.quoted.proofs.raw_double_quoted_string.Statement.{statement}
 use Rattle.quoted.proofs.raw_double_quoted_string.Tie as tie
 
-eat-hashes-requires : tie.Need-eat-hashes-requires
-eat-hashes-requires c κs = search needs
+eat-repeated-requires : tie.Need-eat-repeated-requires
+eat-repeated-requires c κs = search needs
 
 first-requires : tie.Need-first-requires
 first-requires c κs = search needs
@@ -38,7 +38,7 @@ pub raw-double-quoted-string-spec : {M : Type 1} → statement M
 raw-double-quoted-string-spec =
     tie.close
     (tie.spec
-    eat-hashes-requires
+    eat-repeated-requires
     first-requires
     bump-requires
     returns

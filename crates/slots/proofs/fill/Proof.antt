@@ -8,13 +8,16 @@ use Rattle.slots.proofs.fill.Statement.{statement}
 use Rattle.slots.proofs.fill.Tie as tie
 
 abbrev Inv-loop : tie.InvT-loop
-Inv-loop text starts continues emoji on slots₀ used₀ from₀ flag₀ slots used from flag = Slotting (lent starts continues emoji) text on slots₀ slots used from flag
+Inv-loop text starts continues emoji on slots₀ used₀ scan₀ slots used scan = Slotting (lent starts continues emoji) text on slots₀ slots used scan
 
 abbrev μ-loop : tie.MeasureT-loop
-μ-loop text starts continues emoji on slots₀ used₀ from₀ flag₀ slots used from flag = length (chars (drop from text))
+μ-loop text starts continues emoji on slots₀ used₀ scan₀ slots used scan = length (chars (drop (scan .next) text))
+
+start-requires : tie.Need-start-requires Inv-loop μ-loop
+start-requires c κs = search needs
 
 loop-holds : tie.Need-loop-holds Inv-loop μ-loop
-loop-holds c = slotting-none _ _ _ _
+loop-holds c = search slotting-none
 
 step-requires : tie.Need-step-requires Inv-loop μ-loop
 step-requires c κs = search needs
@@ -40,6 +43,7 @@ fill-spec =
     (tie.spec
     Inv-loop
     μ-loop
+    start-requires
     loop-holds
     step-requires
     put-token-requires

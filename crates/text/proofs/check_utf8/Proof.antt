@@ -1,5 +1,6 @@
--- `text::check_utf8` meets its contract. The loop has reached a place up to which characters take every byte (Places).
+-- `text::check_utf8` meets its contract. The loop has reached a place up to which characters take every byte (Places), one character or a run of ASCII further each turn (Runs).
 use Rattle.text.proofs.Places.{Reached, reached-none, char-room, char-less, reached-more, reached-end, reached-ill}
+use Rattle.text.proofs.Runs.{reached-run}
 use native.Mathlib.Omega.{arith}
 use lib.ListN.{length}
 use Prim.Native.Nat.{_-_}
@@ -16,20 +17,32 @@ abbrev μ-loop : tie.MeasureT-loop
 loop-holds : tie.Need-loop-holds Inv-loop μ-loop
 loop-holds c = reached-none _
 
+eight-ascii-requires : tie.Need-eight-ascii-requires Inv-loop μ-loop
+eight-ascii-requires c κs = search needs
+
+add-at : tie.Need-add-at Inv-loop μ-loop
+add-at c = omega (arith, c .before .eight-ascii .ensures (c .if1 .taken) .room)
+
+loop-less : tie.Need-loop-less Inv-loop μ-loop
+loop-less c = omega (arith, c .before .eight-ascii .ensures (c .if1 .taken) .room)
+
+loop-again : tie.Need-loop-again Inv-loop μ-loop
+loop-again c = reached-run _ 8 (c .before .before .loop .inv) (c .before .eight-ascii .ensures (c .if1 .taken))
+
 decode-requires : tie.Need-decode-requires Inv-loop μ-loop
 decode-requires c κs = search needs
 
 enum-known-w : tie.Need-enum-known-w Inv-loop μ-loop
 enum-known-w c = search needs
 
-add-at : tie.Need-add-at Inv-loop μ-loop
-add-at c = let o = c .before .before .before .before in omega (arith, char-room (o .before .before .args .text .now) (o .loop .at) (c .before .before .before .decode .ensures) (c .before .w .given .1))
+add-at-2 : tie.Need-add-at-2 Inv-loop μ-loop
+add-at-2 c = let o = c .before .before .before .before .before .before in omega (arith, char-room (o .before .before .args .text .now) (o .loop .at) (c .before .before .before .decode .ensures) (c .before .w .given .1))
 
-loop-less : tie.Need-loop-less Inv-loop μ-loop
-loop-less c = search char-less
+loop-less-2 : tie.Need-loop-less-2 Inv-loop μ-loop
+loop-less-2 c = search char-less
 
-loop-again : tie.Need-loop-again Inv-loop μ-loop
-loop-again c = search reached-more
+loop-again-2 : tie.Need-loop-again-2 Inv-loop μ-loop
+loop-again-2 c = search reached-more
 
 enum-told : tie.Need-enum-told Inv-loop μ-loop
 enum-told c = search needs
@@ -50,11 +63,15 @@ check-utf8-spec =
     Inv-loop
     μ-loop
     loop-holds
-    decode-requires
-    enum-known-w
+    eight-ascii-requires
     add-at
     loop-less
     loop-again
+    decode-requires
+    enum-known-w
+    add-at-2
+    loop-less-2
+    loop-again-2
     enum-told
     returns
     enum-told-2

@@ -1,64 +1,32 @@
--- `vectors::put` meets its contract. The length is kept by each store, and four stores are the four bytes (Puts).
-use Rattle.vectors.proofs.Puts.{four-stores}
-use native.Mathlib.Omega.{arith}
-use lib.ListN.{length-set}
+-- `vectors::put` meets its contract. There is room for the numbers that are left.
+use Prim.Native.Nat.{_+_, _-_, _*_, _≤_}
+use mathlib.Core.Path.{_≡_}
+use lib.ListN.{length}
 use borrow.Author.Needs.{needs}
 use Rattle.vectors.proofs.put.Statement.{statement}
 use Rattle.vectors.proofs.put.Tie as tie
 
-cast-out : tie.Need-cast-out
-cast-out c = search needs
+abbrev Inv-loop : tie.InvT-loop
+Inv-loop out₀ at ns i₀ next₀ out i next = (i ≤ length ns) × (next + (length ns - i) * 4 ≤ length out) × (length out ≡ length out₀)
 
-slice-write-out : tie.Need-slice-write-out
-slice-write-out c = search needs
-
-cast-out-2 : tie.Need-cast-out-2
-cast-out-2 c = search needs
-
-add-out : tie.Need-add-out
-add-out c = search needs
-
-slice-write-out-2 : tie.Need-slice-write-out-2
-slice-write-out-2 c = simp length-set (omega arith)
-
-cast-out-3 : tie.Need-cast-out-3
-cast-out-3 c = search needs
-
-add-out-2 : tie.Need-add-out-2
-add-out-2 c = search needs
-
-slice-write-out-3 : tie.Need-slice-write-out-3
-slice-write-out-3 c = simp length-set (omega arith)
-
-cast-out-4 : tie.Need-cast-out-4
-cast-out-4 c = search needs
-
-add-out-3 : tie.Need-add-out-3
-add-out-3 c = search needs
-
-slice-write-out-4 : tie.Need-slice-write-out-4
-slice-write-out-4 c = simp length-set (omega arith)
-
-same-length : tie.Need-same-length
-same-length c = search needs
-
-returns : tie.Need-returns
-returns c = search four-stores
+abbrev μ-loop : tie.MeasureT-loop
+μ-loop out₀ at ns i₀ next₀ out i next = length ns - i
 
 pub put-spec : {M : Type 1} → statement M
 put-spec =
     tie.close
     (tie.spec
-    cast-out
-    slice-write-out
-    cast-out-2
-    add-out
-    slice-write-out-2
-    cast-out-3
-    add-out-2
-    slice-write-out-3
-    cast-out-4
-    add-out-3
-    slice-write-out-4
-    same-length
-    returns)
+    Inv-loop
+    μ-loop
+    (λ c. search needs)
+    (λ c. search needs)
+    (λ c. search needs)
+    (λ c. search needs)
+    (λ c. search needs)
+    (λ c κs. search needs)
+    (λ c. search needs)
+    (λ c. search needs)
+    (λ c. search needs)
+    (λ c. search needs)
+    (λ c. search needs)
+    (λ c. search needs))

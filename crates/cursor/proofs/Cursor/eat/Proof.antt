@@ -1,4 +1,4 @@
--- `cursor::Cursor::eat` meets its contract. `Eating`: so many of the characters are passed (Moves).
+-- `cursor::Cursor::eat` meets its contract. `Eating`: how many of the characters are passed (Moves).
 use Prim.Native.Nat.{_-_}
 use Rattle.cursor.proofs.Moves.{Eating, eating-none, eating-more, eating-done}
 use borrow.Author.Needs.{needs}

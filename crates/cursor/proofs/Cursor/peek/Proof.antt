@@ -1,44 +1,34 @@
--- `cursor::Cursor::peek` meets its contract. What the decoder finds there is a step of the cursor (Steps).
-use Rattle.text.proofs.Places.{char-room}
-use native.Mathlib.Omega.{arith}
-use Rattle.cursor.proofs.Steps.{seen-char, seen-end, seen-ill}
+-- `cursor::Cursor::peek` meets its contract. A byte of ASCII is a step of the cursor (Steps); else the decoder says.
+use Rattle.cursor.proofs.Steps.{seen-ascii}
 use borrow.Author.Needs.{needs}
 use Rattle.cursor.proofs.Cursor.peek.Statement.{statement}
 use Rattle.cursor.proofs.Cursor.peek.Tie as tie
 
-decode-requires : tie.Need-decode-requires
-decode-requires c κs = search needs
+shared-slice-read-b : tie.Need-shared-slice-read-b
+shared-slice-read-b c = search needs
 
-enum-known-c : tie.Need-enum-known-c
-enum-known-c c = search needs
+add-t11 : tie.Need-add-t11
+add-t11 c = search needs
 
-add-t9 : tie.Need-add-t9
-add-t9 c = let o = c .before .before .before in omega (arith, char-room (o .before .before .args .text .now) (o .before .before .args .self .at) (o .decode .ensures) (c .before .c .given .1))
-
-enum-told : tie.Need-enum-told
-enum-told c = search needs
-
-enum-told-2 : tie.Need-enum-told-2
-enum-told-2 c = search needs
+cast-t12 : tie.Need-cast-t12
+cast-t12 c = search needs
 
 returns : tie.Need-returns
-returns c = search seen-char
+returns c = search seen-ascii
+
+peek-far-requires : tie.Need-peek-far-requires
+peek-far-requires c κs = search needs
 
 returns-2 : tie.Need-returns-2
-returns-2 c = search seen-end
-
-returns-3 : tie.Need-returns-3
-returns-3 c = search seen-ill
+returns-2 c = search needs
 
 pub peek-spec : {M : Type 1} → statement M
 peek-spec =
     tie.close
     (tie.spec
-    decode-requires
-    enum-known-c
-    add-t9
-    enum-told
-    enum-told-2
+    shared-slice-read-b
+    add-t11
+    cast-t12
     returns
-    returns-2
-    returns-3)
+    peek-far-requires
+    returns-2)

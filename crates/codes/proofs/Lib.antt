@@ -1,4 +1,0 @@
-pub mod Numbers
-mod Bare
-mod Details
-pub mod Decode

@@ -1,3 +1,0 @@
-mod Strings
-mod Guesses
-mod Checks

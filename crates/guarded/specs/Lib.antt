@@ -1,2 +1,0 @@
-pub mod Guards
-pub mod Checks

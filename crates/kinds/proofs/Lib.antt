@@ -1,0 +1,6 @@
+mod Sorts
+mod Numbers
+mod Bare
+mod Details
+pub mod Decode
+pub mod Answers

@@ -1,4 +1,0 @@
-pub mod Run
-pub mod Bytes
-pub mod Replies
-pub mod Walk
