@@ -13,18 +13,18 @@ use Rattle.canon.specs.Meaning.{Item, gap, meant, gapBefore, meaning}
 use Rattle.canon.specs.Key.{keyOf}
 use Rattle.canon.specs.Fair.{Fair}
 use Rattle.canon.specs.Spelled.{Said}
-use Rattle.canon.specs.Agree.{saidIn, meaningful, gapsWith, gaps, Agree}
+use Rattle.canon.specs.Agree.{saidIn, notTrivia, gapsWith, gaps, Agree}
 use Rattle.canon.proofs.Spelling.{itemsSaid}
 use Rattle.canon.proofs.Written.{meaning-said}
 use Rattle.canon.proofs.Canon.{canonical}
 
 -- there is one flag more than there are meaningful tokens
-pub one-more : (g : Bool) (ts : List Said) → length (gapsWith g ts) ≡ suc (length (meaningful ts))
+pub one-more : (g : Bool) (ts : List Said) → length (gapsWith g ts) ≡ suc (length (notTrivia ts))
 one-more g [] = refl
 one-more g (t ∷ ts) = go (isTrivia (t .kind)) (one-more true ts) (one-more false ts)
   where
-    go : (b : Bool) → length (gapsWith true ts) ≡ suc (length (meaningful ts)) → length (gapsWith false ts) ≡ suc (length (meaningful ts))
-        → length (pick b (gapsWith true ts) (g ∷ gapsWith false ts)) ≡ suc (length (pick b (meaningful ts) (t ∷ meaningful ts)))
+    go : (b : Bool) → length (gapsWith true ts) ≡ suc (length (notTrivia ts)) → length (gapsWith false ts) ≡ suc (length (notTrivia ts))
+        → length (pick b (gapsWith true ts) (g ∷ gapsWith false ts)) ≡ suc (length (pick b (notTrivia ts) (t ∷ notTrivia ts)))
     go true i j = i
     go false i j = ap suc j
 
@@ -49,12 +49,12 @@ flags-gap g [] = refl
 flags-gap g (gap ∷ is) = refl
 flags-gap g (meant k bytes ∷ is) = refl
 
-meants-of : (ts : List Said) → meants (itemsSaid ts) ≡ meaningful ts
+meants-of : (ts : List Said) → meants (itemsSaid ts) ≡ notTrivia ts
 meants-of [] = refl
 meants-of (t ∷ ts) = go (isTrivia (t .kind)) (meants-of ts)
   where
-    go : (b : Bool) → meants (itemsSaid ts) ≡ meaningful ts
-        → meants (pick b (gapBefore (itemsSaid ts)) (meant (t .kind) (t .bytes) ∷ itemsSaid ts)) ≡ pick b (meaningful ts) (t ∷ meaningful ts)
+    go : (b : Bool) → meants (itemsSaid ts) ≡ notTrivia ts
+        → meants (pick b (gapBefore (itemsSaid ts)) (meant (t .kind) (t .bytes) ∷ itemsSaid ts)) ≡ pick b (notTrivia ts) (t ∷ notTrivia ts)
     go true i = meants-gap (itemsSaid ts) ∙ i
     go false i = ap (λ (l : List Said). t ∷ l) i
 
@@ -86,12 +86,12 @@ marked-run : (g : Bool) (m : List Item) → marked g (gapBefore m) ≡ gapBefore
 marked-run true m = one-run m
 marked-run false m = refl
 
-joined : (g : Bool) (ts : List Said) → join (gapsWith g ts) (meaningful ts) ≡ marked g (itemsSaid ts)
+joined : (g : Bool) (ts : List Said) → join (gapsWith g ts) (notTrivia ts) ≡ marked g (itemsSaid ts)
 joined g [] = refl
 joined g (t ∷ ts) = go (isTrivia (t .kind)) (joined true ts) (joined false ts)
   where
-    go : (b : Bool) → join (gapsWith true ts) (meaningful ts) ≡ gapBefore (itemsSaid ts) → join (gapsWith false ts) (meaningful ts) ≡ itemsSaid ts
-        → join (pick b (gapsWith true ts) (g ∷ gapsWith false ts)) (pick b (meaningful ts) (t ∷ meaningful ts)) ≡ marked g (pick b (gapBefore (itemsSaid ts)) (meant (t .kind) (t .bytes) ∷ itemsSaid ts))
+    go : (b : Bool) → join (gapsWith true ts) (notTrivia ts) ≡ gapBefore (itemsSaid ts) → join (gapsWith false ts) (notTrivia ts) ≡ itemsSaid ts
+        → join (pick b (gapsWith true ts) (g ∷ gapsWith false ts)) (pick b (notTrivia ts) (t ∷ notTrivia ts)) ≡ marked g (pick b (gapBefore (itemsSaid ts)) (meant (t .kind) (t .bytes) ∷ itemsSaid ts))
     go true i j = i ∙ sym (marked-run g (itemsSaid ts))
     go false i j = ap (λ (is : List Item). marked g (meant (t .kind) (t .bytes) ∷ is)) j
 
@@ -99,7 +99,7 @@ joined g (t ∷ ts) = go (isTrivia (t .kind)) (joined true ts) (joined false ts)
 module _ (L : Lists) (s t : List ℕ) where
   agree-meaning : Agree L s t → meaning L s ≡ meaning L t
   agree-meaning a =
-      meaning-said L s ∙ sym (joined false (saidIn L s)) ∙ ap (λ (gs : List Bool). join gs (meaningful (saidIn L s))) (a .trivia)
+      meaning-said L s ∙ sym (joined false (saidIn L s)) ∙ ap (λ (gs : List Bool). join gs (notTrivia (saidIn L s))) (a .trivia)
       ∙ ap (join (gaps (saidIn L t))) (a .tokens) ∙ joined false (saidIn L t) ∙ sym (meaning-said L t)
 
   meaning-agree : meaning L s ≡ meaning L t → Agree L s t

@@ -16,9 +16,9 @@ abbrev pub saidIn : Lists → (s : List ℕ) → List Said
 saidIn L s = saidOf s (records L false s)
 
 -- those that are not trivia, in their order
-abbrev pub meaningful : List Said → List Said
-meaningful [] = []
-meaningful (t ∷ ts) = pick (isTrivia (t .kind)) (meaningful ts) (t ∷ meaningful ts)
+abbrev pub notTrivia : List Said → List Said
+notTrivia [] = []
+notTrivia (t ∷ ts) = pick (isTrivia (t .kind)) (notTrivia ts) (t ∷ notTrivia ts)
 
 -- a flag for the gap before each meaningful token, and one for the gap after the last: at least one token of trivia stands there. `trivia`: one stands
 -- in the first gap already
@@ -31,5 +31,5 @@ gaps ts = gapsWith false ts
 
 -- THE TEXTS AGREE
 pub record Agree (L : Lists) (s t : List ℕ) : Type 0 where
-  pub tokens : meaningful (saidIn L s) ≡ meaningful (saidIn L t)
+  pub tokens : notTrivia (saidIn L s) ≡ notTrivia (saidIn L t)
   pub trivia : gaps (saidIn L s) ≡ gaps (saidIn L t)

@@ -15,7 +15,7 @@ use Rattle.cursor.specs.declared.Step.the-variants.{Got, Over}
 use Rattle.cursor.specs.Cursors.{rest, Seen}
 use Rattle.cursor.proofs.Moves.{char-at, end-at}
 use Rattle.cursor.proofs.Loops.{Eaten, eaten-none, eaten-on, eaten-off, eaten-over}
-use Rattle.numerals.specs.Counts.{digitOf, Counted}
+use Rattle.numerals.specs.Counts.{digitOf, CountedDigits}
 
 -- hexadecimal digits, by the three ranges
 module _ (c : ℕ) {t : Bool} (e : t ≡ digit c) where
@@ -79,10 +79,10 @@ module _ (q : ℕ → Bool) {s : List ℕ} {a b : Cursor} {some : Bool} {r : Ste
           let v : spaced q c ≡ true = rw (← f, n, u) in
           record { eaten = eaten-on (spaced q) (i .eaten) h e (sym v) refl; noted = noted-on some v (rw (← f, n) (or-false some)) }
 
-      pub count-off : t ≡ false → (c ≡ 0x5F → ⊥) → Counted (spaced q) q s a (record { next = b; some = some })
+      pub count-off : t ≡ false → (c ≡ 0x5F → ⊥) → CountedDigits (spaced q) q s a (record { next = b; some = some })
       count-off n u =
           let v : spaced q c ≡ false = rw (← f, n) (ne-eqb c 0x5F u) in
           record { moved = eaten-off (spaced q) (i .eaten) h e (sym v) refl; noted = noted-off v }
 
-  pub count-over : r ≡ Over → Counted (spaced q) q s a (record { next = b; some = some })
+  pub count-over : r ≡ Over → CountedDigits (spaced q) q s a (record { next = b; some = some })
   count-over e = record { moved = eaten-over (spaced q) (i .eaten) h e; noted = sym (or-false some) ∙ (rw (end-at e h) at (i .noted)) }

@@ -27,7 +27,7 @@ use Rattle.cursor.specs.Ran.{Ran}
 use Rattle.cursor.proofs.Runs.{ran-word, ran-give, ran-bind, ran-then, ran-yes, ran-no, ran-take, ran-both, ran-not-both, ran-this, ran-that}
 use Rattle.cursor.proofs.Loops.{ran-while}
 use Rattle.numerals.specs.declared.Digits.{Digits}
-use Rattle.numerals.specs.Counts.{Counted}
+use Rattle.numerals.specs.Counts.{CountedDigits}
 
 -- the marks of a rule, named so that a test of them can be stated
 abbrev signed : ℕ → Bool
@@ -43,7 +43,7 @@ neither : (x y c : ℕ) → (c ≡ x → ⊥) → (c ≡ y → ⊥) → or (eqb 
 neither x y c h k = rw (ne-eqb c x h, ne-eqb c y k)
 
 -- what was counted is a run
-ran-counted : {p q : ℕ → Bool} {s : List ℕ} {a : Cursor} {r : Digits} → Counted p q s a r → Ran (while p) s a (r .next) (takeWhile p (rest s a))
+ran-counted : {p q : ℕ → Bool} {s : List ℕ} {a : Cursor} {r : Digits} → CountedDigits p q s a r → Ran (while p) s a (r .next) (takeWhile p (rest s a))
 ran-counted {p} m = ran-while p (m .moved)
 
 -- a sign
@@ -55,7 +55,7 @@ module _ {s : List ℕ} {a : Cursor} {c : ℕ} (e : c ≡ getD (rest s a) 0 0) w
   unsigned-in h = ran-no _ nothing signed e (neither 0x2D 0x2B c (λ k. h (inr k)) (λ k. h (inl k))) (ran-give tt s a)
 
 -- an exponent, after its e
-module _ (base : Base) {s : List ℕ} {a b : Cursor} {t : Digits} (g : Ran sign s a b tt) (m : Counted decimals digit s b t) where
+module _ (base : Base) {s : List ℕ} {a b : Cursor} {t : Digits} (g : Ran sign s a b tt) (m : CountedDigits decimals digit s b t) where
   exponent-in : (empty : Bool) → not (t .some) ≡ empty → Ran (exponent base) s a (t .next) (float base empty)
   exponent-in empty e =
       ran-then g
@@ -78,7 +78,7 @@ module _ (base : Base) (k : LiteralKind) {s : List ℕ} {a : Cursor} {c : ℕ} (
 
 -- after a point that joins
 module _ (base : Base) {s : List ℕ} {a : Cursor} {c : ℕ} {t : Bool} (e : c ≡ getD (rest s a) 0 0) (f : t ≡ digit c) where
-  pub point-digits : {d : Digits} {n : Cursor} {x : Body} → t ≡ true → Counted decimals digit s a d
+  pub point-digits : {d : Digits} {n : Cursor} {x : Body} → t ≡ true → CountedDigits decimals digit s a d
       → Ran (maybeExponent base (record { kind = Float base false; suffixed = true })) s (d .next) n x → Ran (afterPoint base) s a n x
   point-digits h m r = ran-yes (while decimals >> maybeExponent base (float base false)) _ digit e (sym f ∙ h) (ran-then (ran-counted m) r)
 
@@ -113,10 +113,10 @@ module _ (i : List ℕ) (base : Base) {s : List ℕ} {a : Cursor} {some : Bool} 
   pub digits-none : some ≡ false → Ran (afterDigits (lent i [] []) base some) s a a (record { kind = Int base true; suffixed = true })
   digits-none h = ran-that _ (give (int base true)) h (ran-give (int base true) s a)
 
-pub based-in : (i : List ℕ) (base : Base) (p q : ℕ → Bool) {s : List ℕ} {a n : Cursor} {t : Digits} {x : Body} → Counted p q s a t → Ran (afterDigits (lent i [] []) base (t .some)) s (t .next) n x → Ran (based (lent i [] []) base p q) s a n x
+pub based-in : (i : List ℕ) (base : Base) (p q : ℕ → Bool) {s : List ℕ} {a n : Cursor} {t : Digits} {x : Body} → CountedDigits p q s a t → Ran (afterDigits (lent i [] []) base (t .some)) s (t .next) n x → Ran (based (lent i [] []) base p q) s a n x
 based-in i base p q m r = ran-bind (λ (l : List ℕ). afterDigits (lent i [] []) base (any q l)) (ran-counted m) (rw (m .noted) at r)
 
-pub decimal-in : (i : List ℕ) {s : List ℕ} {a n : Cursor} {t : Digits} {x : Body} → Counted decimals digit s a t → Ran (fraction (lent i [] []) Decimal) s (t .next) n x → Ran (decimal (lent i [] [])) s a n x
+pub decimal-in : (i : List ℕ) {s : List ℕ} {a n : Cursor} {t : Digits} {x : Body} → CountedDigits decimals digit s a t → Ran (fraction (lent i [] []) Decimal) s (t .next) n x → Ran (decimal (lent i [] [])) s a n x
 decimal-in i m r = ran-then (ran-counted m) r
 
 -- A NUMBER, after its first digit f

@@ -23,6 +23,6 @@ abbrev pub digitsOf : (hex : Bool) → ℕ → Bool
 digitsOf hex c = or (digitOf hex c) (underscore c)
 
 -- the characters of p were taken, and r says whether one of them is of q
-pub record Counted (p q : ℕ → Bool) (s : List ℕ) (from : Cursor) (r : Digits) : Type 0 where
+pub record CountedDigits (p q : ℕ → Bool) (s : List ℕ) (from : Cursor) (r : Digits) : Type 0 where
   pub moved : Moved s from (r .next) (left (while p) (rest s from))
   pub noted : r .some ≡ any q (takeWhile p (rest s from))

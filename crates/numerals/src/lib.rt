@@ -9,7 +9,7 @@ ghost use Rattle.token.specs.Lists.{lent};
 ghost use Rattle.token.specs.Numbers;
 ghost use Rattle.token.specs.Numbers.{hexDigit, sign, exponent, maybeExponent, afterPoint, afterDigits};
 ghost use Rattle.cursor.specs.Ran.{Ran};
-ghost use Rattle.numerals.specs.Counts.{digitOf, digitsOf, Counted};
+ghost use Rattle.numerals.specs.Counts.{digitOf, digitsOf, CountedDigits};
 use cursor::Cursor;
 use cursor::Step;
 use text::CodePoint;
@@ -59,7 +59,7 @@ fn is_digit_of(c: CodePoint, hex: bool) -> bool
 
 // Past digits and underscores (000's eat_decimal_digits and eat_hexadecimal_digits). An underscore is not a digit.
 fn eat_digits(text: &[u8], from: Cursor, hex: bool) -> Digits
-    ensures { λ r. ⌜ Counted (digitsOf hex) (digitOf hex) (now (text .entry)) from r ⌝ }
+    ensures { λ r. ⌜ CountedDigits (digitsOf hex) (digitOf hex) (now (text .entry)) from r ⌝ }
 {
     let mut cur = from;
     let mut some = false;

@@ -6,7 +6,7 @@ use native.Mathlib.Omega.{arith}
 use Rattle.vectors.specs.declared.Vector.{Vector}
 use Rattle.vectors.specs.Placed.{VectorPlaced}
 use Rattle.replay.specs.declared.Tally.{Tally}
-use Rattle.replay.specs.Counted.{Counted, Stopped, One, Steps}
+use Rattle.replay.specs.Counted.{Tallied, Stopped, One, Steps}
 
 module _ {t : Tally} {to : ℕ} {agrees w : Bool} where
   pub one-same : agrees ≡ true → One t to agrees (record { at = to; same = t .same + 1; other = t .other; stopped = w })
@@ -19,7 +19,7 @@ module _ {t : Tally} {to : ℕ} {agrees w : Bool} where
 not-all : {a b : ℕ} {w : Bool} → w ≡ true → w ≡ false → a ≡ b
 not-all e f = let z : _≡_ {A = ℕ} 0 1 = cc in omega arith
 
-module _ {n : ℕ} {t r : Tally} (c : Counted n t) where
+module _ {n : ℕ} {t r : Tally} (c : Tallied n t) where
   pub step-out : Stopped t r → Steps n 1 t r
   step-out h = record { counted = record { room = omega arith; few = omega arith }; most = omega arith; all = not-all (h .out) }
 
@@ -28,10 +28,10 @@ module _ {n : ℕ} {t r : Tally} (c : Counted n t) where
 
 -- k vectors less those that are left are counted
 pub record Going (n k : ℕ) (from t : Tally) (left : ℕ) : Type 0 where
-  pub counted : Counted n t
+  pub counted : Tallied n t
   pub rest : t .same + t .other + left ≡ from .same + from .other + k
 
-pub going-starts : {n k : ℕ} {from : Tally} → Counted n from → Going n k from from k
+pub going-starts : {n k : ℕ} {from : Tally} → Tallied n from → Going n k from from k
 going-starts c = record { counted = c; rest = refl }
 
 module _ {n k left : ℕ} {from t : Tally} (g : Going n k from t left) where

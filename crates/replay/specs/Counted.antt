@@ -7,7 +7,7 @@ use Rattle.vectors.specs.declared.Part.{Part}
 use Rattle.replay.specs.declared.Tally.{Tally}
 
 -- a tally stands within the file, and has counted no more vectors than bytes
-pub record Counted (n : ℕ) (t : Tally) : Type 0 where
+pub record Tallied (n : ℕ) (t : Tally) : Type 0 where
   pub room : t .at ≤ n
   pub few : t .same + t .other ≤ t .at
 
@@ -31,6 +31,6 @@ pub record One (t : Tally) (to : ℕ) (agrees : Bool) (r : Tally) : Type 0 where
 
 -- of k vectors each that was compared is counted once, and all k of them where the file is in order
 pub record Steps (n k : ℕ) (t r : Tally) : Type 0 where
-  pub counted : Counted n r
+  pub counted : Tallied n r
   pub most : r .same + r .other ≤ t .same + t .other + k
   pub all : r .stopped ≡ false → r .same + r .other ≡ t .same + t .other + k

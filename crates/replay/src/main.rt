@@ -4,7 +4,7 @@
 ghost use mathlib.Core.Path.{_≡_};
 ghost use Prim.Native.Nat.{_+_, _<_, _≤_};
 ghost use lib.ListN.{length};
-ghost use Rattle.replay.specs.Counted.{Counted, Within, Stopped, One, Steps};
+ghost use Rattle.replay.specs.Counted.{Tallied, Within, Stopped, One, Steps};
 use libc::STDOUT_FILENO;
 use vectors::Part;
 
@@ -85,7 +85,7 @@ fn step(
     emoji: &[u32],
     out: &mut [u8],
 ) -> Tally
-    requires { ⌜ Counted (length (now s)) t ⌝ }
+    requires { ⌜ Tallied (length (now s)) t ⌝ }
     ensures { λ r. ⌜ Steps (length (now (s .entry))) 1 t r ⌝ }
 {
     let at = t.at;
@@ -112,7 +112,7 @@ fn steps(
     emoji: &[u32],
     out: &mut [u8],
 ) -> Tally
-    requires { ⌜ Counted (length (now s)) from ⌝ }
+    requires { ⌜ Tallied (length (now s)) from ⌝ }
     ensures { λ r. ⌜ Steps (length (now (s .entry))) count from r ⌝ }
 {
     let mut t = from;
@@ -144,7 +144,7 @@ fn with_lists(
     emoji_at: Part,
     out: &mut [u8],
 ) -> Tally
-    requires { ⌜ Counted (length (now s)) first ⌝ }
+    requires { ⌜ Tallied (length (now s)) first ⌝ }
     ensures { λ r. ⌜ Steps (length (now (s .entry))) count first r ⌝ }
 {
     let mut starts = list_room();
@@ -166,8 +166,8 @@ fn with_lists(
 
 // One section: three lists, a count, and as many vectors.
 fn section(s: &[u8], t: Tally, out: &mut [u8]) -> Tally
-    requires { ⌜ Counted (length (now s)) t ⌝ }
-    ensures { λ r. ⌜ Counted (length (now (s .entry))) r ⌝ }
+    requires { ⌜ Tallied (length (now s)) t ⌝ }
+    ensures { λ r. ⌜ Tallied (length (now (s .entry))) r ⌝ }
 {
     let starts = vectors::numbers_at(s, t.at);
     if starts.to <= t.at {
@@ -197,7 +197,7 @@ fn section(s: &[u8], t: Tally, out: &mut [u8]) -> Tally
 
 // Every section of a file.
 fn sections(s: &[u8], out: &mut [u8]) -> Tally
-    ensures { λ r. ⌜ Counted (length (now (s .entry))) r ⌝ }
+    ensures { λ r. ⌜ Tallied (length (now (s .entry))) r ⌝ }
 {
     let mut t = Tally {
         at: 0,

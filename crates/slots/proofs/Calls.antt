@@ -22,7 +22,7 @@ use Rattle.plan.specs.declared.Plan.{Plan}
 use Rattle.plan.specs.Answers.{listAnswer}
 use Rattle.plan.specs.Plans.{planOf}
 use Rattle.slots.specs.Numbers.{numbersOf}
-use Rattle.slots.specs.Fills.{Filling, Filled}
+use Rattle.slots.specs.Fills.{Filling, FilledSlots}
 use Rattle.slots.specs.Answers.{Slotted}
 
 abbrev isListed : ListAnswer → Bool
@@ -57,7 +57,7 @@ module _ (limit : ℕ) (s : List ℕ) (L : Lists) (on : Bool) (before : List ℕ
     pub fill-ready : Filling L s on before
     fill-ready = record { checked = fine-checked limit s L refl (done .fine); room = omega (arith, done .room) }
 
-    pub listed-in : {after : List ℕ} → Filled L s on before after → Slotted limit s L on before after (Listed n)
+    pub listed-in : {after : List ℕ} → FilledSlots L s on before after → Slotted limit s L on before after (Listed n)
     listed-in w = record { answer = sym k ∙ answered; holds = w ∙ ap (λ (j : ℕ). numbersOf (records L on s) ++ drop (4 * j) before) (done .same) }
 
   pub slots-in : {n : ℕ} → p .answer ≡ Slots n → Slotted limit s L on before before (Slots n)

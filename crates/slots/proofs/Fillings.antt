@@ -16,7 +16,7 @@ use Rattle.lexer.proofs.Walks.{begins-on, Char, char-there, records-end, begins
 use Rattle.puts.specs.Put.{Put}
 use Rattle.puts.proofs.Joining.{Joining, joining-none, joined-room, joined-on, joined-long, joined-all}
 use Rattle.slots.specs.Numbers.{fourOf, numbersOf}
-use Rattle.slots.specs.Fills.{Fitting, Filling, Filled}
+use Rattle.slots.specs.Fills.{TokenFits, Filling, FilledSlots}
 
 -- four numbers a token
 pub numbers-long : (ts : List Token) → length (numbersOf ts) ≡ 4 * length ts
@@ -33,7 +33,7 @@ slotting-none {L} {s} {on} {before} e = rw e (record { edged = begins-on (chars 
 
 module _ {L : Lists} {s : List ℕ} {on : Bool} {before out : List ℕ} {n : ℕ} {c : Scan} (m : Slotting L s on before out n c) where
   -- the end
-  pub slotted-all : length s ≤ c .next → Filled L s on before out
+  pub slotted-all : length s ≤ c .next → FilledSlots L s on before out
   slotted-all h =
       let none : Joining fourOf (numbersOf (records L on s)) before out n [] = rw (records-end L s c h) at (m .joined) in
       joined-all none ∙ ap (λ (j : ℕ). numbersOf (records L on s) ++ drop j before) (joined-long none ∙ numbers-long (records L on s))
@@ -49,7 +49,7 @@ module _ {L : Lists} {s : List ℕ} {on : Bool} {before out : List ℕ} {n : ℕ
     pub slotted-less : length (chars (drop (x .next) s)) < length (chars (drop (c .next) s))
     slotted-less = fewer L s c e there
 
-    pub slotted-fits : Fitting out n (x .token)
+    pub slotted-fits : TokenFits out n (x .token)
     slotted-fits = record {
       room = joined-room here (omega (arith, numbers-long (records L on s), ready .room));
       narrow = omega (arith, begins-there L s c e, l, ready .checked .fits);

@@ -11,7 +11,7 @@ use Rattle.lexer.specs.Checked.{Checked}
 use Rattle.slots.specs.Numbers.{numbersOf}
 
 -- there is room at n for four numbers, and the start is one of them
-pub record Fitting (slots : List ℕ) (n : ℕ) (t : Token) : Type 0 where
+pub record TokenFits (slots : List ℕ) (n : ℕ) (t : Token) : Type 0 where
   pub room : n + 4 ≤ length slots
   pub narrow : t .start ≤ 4294967295
 
@@ -21,5 +21,5 @@ pub record Filling (L : Lists) (s : List ℕ) (on : Bool) (slots : List ℕ) : T
   pub room : 4 * length (records L on s) ≤ length slots
 
 -- the numbers of the tokens are in the first slots, and the rest is as it was
-abbrev pub Filled : Lists → (s : List ℕ) (on : Bool) (before after : List ℕ) → Type 0
-Filled L s on before after = after ≡ numbersOf (records L on s) ++ drop (4 * length (records L on s)) before
+abbrev pub FilledSlots : Lists → (s : List ℕ) (on : Bool) (before after : List ℕ) → Type 0
+FilledSlots L s on before after = after ≡ numbersOf (records L on s) ++ drop (4 * length (records L on s)) before

@@ -6,7 +6,7 @@ ghost use lib.ListN.{length};
 ghost use Rattle.token.specs.Lists.{lent};
 ghost use Rattle.puts.specs.Put.{Put};
 ghost use Rattle.slots.specs.Numbers.{fourOf};
-ghost use Rattle.slots.specs.Fills.{Fitting, Filling, Filled};
+ghost use Rattle.slots.specs.Fills.{TokenFits, Filling, FilledSlots};
 ghost use Rattle.slots.specs.Answers.{Slotted};
 use plan::ListAnswer;
 use token::Token;
@@ -25,7 +25,7 @@ fn put_four(slots: &mut [u32], n: usize, a: u32, b: u32, c: u32, d: u32) -> usiz
 
 // Puts the four numbers of a token, one of a text within the limit: its start is one of them whole.
 fn put_token(slots: &mut [u32], n: usize, token: Token) -> usize
-    requires { ⌜ Fitting (now slots) n token ⌝ }
+    requires { ⌜ TokenFits (now slots) n token ⌝ }
     ensures { λ r. ⌜ Put (fourOf token) (now (slots .entry)) n (now (slots .exit)) r ⌝ }
 {
     let kind = token.kind;
@@ -37,7 +37,7 @@ fn put_token(slots: &mut [u32], n: usize, token: Token) -> usize
 // Writes the numbers of every token of a text that was checked into a run that has room for them.
 fn fill(text: &[u8], starts: &[u32], continues: &[u32], emoji: &[u32], on: bool, slots: &mut [u32])
     requires { ⌜ Filling (lent (now starts) (now continues) (now emoji)) (now text) on (now slots) ⌝ }
-    ensures { λ r. ⌜ Filled (lent (now (starts .entry)) (now (continues .entry)) (now (emoji .entry))) (now (text .entry)) on (now (slots .entry)) (now (slots .exit)) ⌝ }
+    ensures { λ r. ⌜ FilledSlots (lent (now (starts .entry)) (now (continues .entry)) (now (emoji .entry))) (now (text .entry)) on (now (slots .entry)) (now (slots .exit)) ⌝ }
 {
     let mut used: usize = 0;
     let mut scan = lexer::start(on);

@@ -9,7 +9,7 @@ use native.Mathlib.Nat.{pow-suc, pow-le-pow-right}
 use native.Mathlib.Omega.{arith}
 use Rattle.basics.proofs.Choices.{below-or-not}
 use Rattle.io.specs.Digits.{digits, glyph, Fewest}
-use Rattle.token_line.specs.Line.{lastDigits, decimal}
+use Rattle.token_line.specs.Line.{lastDigits, decimalBytes}
 use Rattle.puts.specs.Put.{Put, PutFew}
 
 -- a digit's code
@@ -47,8 +47,8 @@ few-turns n (suc (suc i)) f =
     let l : 10 ^ suc i ≤ n = subst (λ (x : ℕ). 10 ^ x ≤ n) e (f .2 (omega arith)) in
     omega (arith, above (suc i))
 
-pub the-decimal : (n k : ℕ) → Fewest 10 1 n k → digits 10 k n ≡ decimal n
-unfolding decimal
+pub the-decimal : (n k : ℕ) → Fewest 10 1 n k → digits 10 k n ≡ decimalBytes n
+unfolding decimalBytes
 the-decimal n k f = fewest-digits k (suc n) n (few-turns n k f) f
 
 -- a number of 32 bits has at most ten digits
@@ -63,18 +63,18 @@ ten-digits n k h f = ⊎-elim (λ (more : 10 < k). absurd (over more)) (λ (l : 
         let l : 10 ^ (k - 1) ≤ n = f .2 (omega arith) in
         omega arith
 
--- digits that were put are the decimal
-pub decimal-put : {o p : List ℕ} {at r : ℕ} (n k : ℕ) (t : List ℕ) → n < 4294967296 → k ≡ length (take k t) → Fewest 10 1 n k → take k t ≡ digits 10 k n → Put (take k t) o at p r → PutFew 10 (decimal n) o at p r
+-- digits that were put are its decimal
+pub decimal-put : {o p : List ℕ} {at r : ℕ} (n k : ℕ) (t : List ℕ) → n < 4294967296 → k ≡ length (take k t) → Fewest 10 1 n k → take k t ≡ digits 10 k n → Put (take k t) o at p r → PutFew 10 (decimalBytes n) o at p r
 decimal-put {o} {p} {at} {r} n k t h c f d q =
-    let e : take k t ≡ decimal n = d ∙ the-decimal n k f in
+    let e : take k t ≡ decimalBytes n = d ∙ the-decimal n k f in
     let l : k ≤ 10 = ten-digits n k h f in
     subst (λ (xs : List ℕ). PutFew 10 xs o at p r) e (record { put = q; few = omega arith })
 
 -- some decimals
-zero-is : decimal 0 ≡ 48 ∷ []
-unfolding decimal
+zero-is : decimalBytes 0 ≡ 48 ∷ []
+unfolding decimalBytes
 zero-is = refl
 
-forty-is : decimal 40 ≡ 52 ∷ 48 ∷ []
-unfolding decimal
+forty-is : decimalBytes 40 ≡ 52 ∷ 48 ∷ []
+unfolding decimalBytes
 forty-is = refl

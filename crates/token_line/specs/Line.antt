@@ -12,8 +12,8 @@ lastDigits zero n = []
 lastDigits (suc most) n = pick (ltb n 10) ((48 + n) ∷ []) (lastDigits most (n / 10) ++ ((48 + n % 10) ∷ []))
 
 -- n in decimal: it has no more digits than n + 1
-unfoldable pub decimal : ℕ → List ℕ
-decimal n = lastDigits (suc n) n
+unfoldable pub decimalBytes : ℕ → List ℕ
+decimalBytes n = lastDigits (suc n) n
 
 unfoldable pub line : TokenKind → ℕ → List ℕ
-line kind len = kindName kind ++ (9 ∷ (decimal len ++ (10 ∷ [])))
+line kind len = kindName kind ++ (9 ∷ (decimalBytes len ++ (10 ∷ [])))

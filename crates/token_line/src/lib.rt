@@ -2,14 +2,14 @@
 ghost use Prim.Native.Nat.{_+_, _≤_};
 ghost use lib.ListN.{length};
 ghost use Rattle.token.specs.Kinds.{kindName};
-ghost use Rattle.token_line.specs.Line.{decimal, line};
+ghost use Rattle.token_line.specs.Line.{decimalBytes, line};
 ghost use Rattle.puts.specs.Put.{PutFew};
 use token::TokenKind;
 
 // A number in decimal. A u32 has at most ten digits.
 fn put_decimal(out: &mut [u8], at: usize, n: u32) -> usize
     requires { ⌜ at + 10 ≤ length (now out) ⌝ }
-    ensures { λ r. ⌜ PutFew 10 (decimal n) (now (out .entry)) at (now (out .exit)) r ⌝ }
+    ensures { λ r. ⌜ PutFew 10 (decimalBytes n) (now (out .entry)) at (now (out .exit)) r ⌝ }
 {
     let mut text = [0u8; 20];
     let k = io::decimal(n as u64, &mut text);

@@ -30,7 +30,7 @@ use Rattle.cursor.specs.Ran.{left, Ran, kindFrom}
 use Rattle.cursor.proofs.Runs.{ran-word, ran-give, ran-bind, ran-then, ran-eat, ran-eats, ran-yes, ran-no, ran-take, ran-both, ran-not-both, ran-this, ran-that, ran-texted, ran-bytes}
 use Rattle.cursor.proofs.Loops.{ran-while}
 use Rattle.cursor.proofs.Bytes.{while-bytes, bump-bytes, shifted, past-moved}
-use Rattle.words.specs.Lives.{RestRan, RawRan, LifeRan, found, other}
+use Rattle.words.specs.Lives.{RestRan, RawNameRan, LifeRan, found, other}
 use Rattle.words.specs.declared.Life.the-variants as life
 
 -- after the name: what the rule says of the characters t that it took
@@ -77,14 +77,14 @@ raw-name-in l {s} {d = d} m k = ran-then (ran-then (ran-eats 2 m) (ran-while (id
 
 -- after an r
 module _ (i l : List ℕ) {s : List ℕ} {a : Cursor} {c : ℕ} (e : c ≡ getD (rest s a) 0 0) where
-  pub no-hash : {r : Scanned} → (c ≡ 0x23 → ⊥) → RestRan l false s a r → RawRan i l s a r
+  pub no-hash : {r : Scanned} → (c ≡ 0x23 → ⊥) → RestRan l false s a r → RawNameRan i l s a r
   no-hash h q = record { past = q .past; ran = ran-not-both _ (lifetimeRest (lent i l []) false 2) (is '#') (starting (lent i l [])) e refl (rw (ne-eqb c 0x23 h)) (q .ran 2) }
 
   module _ (h : c ≡ 0x23) {d : ℕ} {t : Bool} (f : d ≡ getD (rest s a) 1 0) (g : t ≡ idStart i d) where
-    pub no-start : {r : Scanned} → t ≡ false → RestRan l false s a r → RawRan i l s a r
+    pub no-start : {r : Scanned} → t ≡ false → RestRan l false s a r → RawNameRan i l s a r
     no-start n q = record { past = q .past; ran = ran-not-both _ (lifetimeRest (lent i l []) false 2) (is '#') (starting (lent i l [])) e f (rw (h, ← g, n)) (q .ran 2) }
 
-    pub raw-found : {b : Cursor} → t ≡ true → Ran (rawName (lent [] l [])) s a b RawLifetime → RawRan i l s a (record { kind = kinded.Plain RawLifetime; next = b })
+    pub raw-found : {b : Cursor} → t ≡ true → Ran (rawName (lent [] l [])) s a b RawLifetime → RawNameRan i l s a (record { kind = kinded.Plain RawLifetime; next = b })
     raw-found n r = record { past = tt; ran = ran-both (rawName (lent [] l [])) _ (is '#') (starting (lent i l [])) e f (rw (h, ← g, n)) r }
 
 -- A LIFETIME OR NOT, by the first two characters c and d
@@ -135,7 +135,7 @@ module _ (i l : List ℕ) {s : List ℕ} {a : Cursor} {c d : ℕ} (f : d ≡ get
       → Ran (lifetimeOr (lent i l []) char) s a x k
   past-two char r = ran-not-both char _ (naming (lent i l [])) (is 'single') e f (not-two (naming (lent i l []) c) d q) r
 
-  pub found-r : {b : Cursor} {r : Scanned} → c ≡ 0x72 → Moved s a b (drop 1 (rest s a)) → RawRan i l s b r → LifeRan i l s a (life.Found r)
+  pub found-r : {b : Cursor} {r : Scanned} → c ≡ 0x72 → Moved s a b (drop 1 (rest s a)) → RawNameRan i l s b r → LifeRan i l s a (life.Found r)
   unfolding width
   found-r {b} {r} h m g =
       let w : width c ≡ 1 = ap width h in

@@ -20,7 +20,7 @@ pub record RestRan (continues : List ℕ) (numbered : Bool) (s : List ℕ) (from
   pub ran : (before : ℕ) → Ran (lifetimeRest (lent [] continues []) numbered before) s from (r .next) (kindFrom before from (r .kind))
 
 -- what an r after the quote begins
-pub record RawRan (starts continues s : List ℕ) (from : Cursor) (r : Scanned) : Type 0 where
+pub record RawNameRan (starts continues s : List ℕ) (from : Cursor) (r : Scanned) : Type 0 where
   pub past : Past from (r .next) (r .kind)
   pub ran : Ran (afterQuoteR (lent starts continues [])) s from (r .next) (kindFrom 2 from (r .kind))
 

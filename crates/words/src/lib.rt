@@ -9,7 +9,7 @@ ghost use Rattle.token.specs.Lists.{lent};
 ghost use Rattle.token.specs.Literals.{identifier};
 ghost use Rattle.token.specs.Words.{inInvalid, invalidIdent, prefixMark, identOrUnknownPrefix};
 ghost use Rattle.token.specs.Lifetimes.{rawName};
-ghost use Rattle.words.specs.Lives.{RestRan, RawRan, LifeRan};
+ghost use Rattle.words.specs.Lives.{RestRan, RawNameRan, LifeRan};
 ghost use Rattle.token.specs.declared.TokenKind.the-variants.{RawLifetime};
 ghost use Rattle.cursor.specs.Cursors.{rest};
 ghost use Rattle.cursor.specs.Moved.{Moved};
@@ -191,7 +191,7 @@ fn raw_lifetime(text: &[u8], from: Cursor, continues: &[u32]) -> Cursor
 // What a quote and an r begin, after them: a raw lifetime, or the rest of a name.
 fn after_quote_r(text: &[u8], from: Cursor, starts: &[u32], continues: &[u32]) -> Scanned
     requires { ⌜ Good (now starts) × Good (now continues) ⌝ }
-    ensures { λ r. ⌜ RawRan (now (starts .entry)) (now (continues .entry)) (now (text .entry)) from r ⌝ }
+    ensures { λ r. ⌜ RawNameRan (now (starts .entry)) (now (continues .entry)) (now (text .entry)) from r ⌝ }
 {
     if from.first(text) != 0x23 {
         return lifetime_rest(text, from, false, continues);

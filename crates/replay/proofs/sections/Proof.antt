@@ -2,13 +2,13 @@
 use Prim.Native.Nat.{_-_}
 use mathlib.Core.Path.{_≡_}
 use lib.ListN.{length}
-use Rattle.replay.specs.Counted.{Counted}
+use Rattle.replay.specs.Counted.{Tallied}
 use borrow.Author.Needs.{needs}
 use Rattle.replay.proofs.sections.Statement.{statement}
 use Rattle.replay.proofs.sections.Tie as tie
 
 abbrev Inv-loop : tie.InvT-loop
-Inv-loop s out₀ t₀ out t = (Counted (length s) t) × (length out ≡ length out₀)
+Inv-loop s out₀ t₀ out t = (Tallied (length s) t) × (length out ≡ length out₀)
 
 abbrev μ-loop : tie.MeasureT-loop
 μ-loop s out₀ t₀ out t = length s - t .at
