@@ -52,7 +52,7 @@ fn after_number(s: &[u8], at: usize, n: usize) -> Part
 }
 
 // A number at a place, and as many bytes after it as it says.
-pub fn bytes_at(s: &[u8], at: usize) -> Part
+fn bytes_at(s: &[u8], at: usize) -> Part
     requires { ⌜ at ≤ length (now s) ⌝ }
     ensures { λ r. ⌜ Placed (length (now (s .entry))) at r ⌝ }
 {
