@@ -59,14 +59,27 @@ def of_code(lines):
                     yield i, new
 
 
+def in_scope(lines):
+    """the names that a file of specs imports or defines: a word that is not among them would fail as a name, not as a fact"""
+    names = set()
+    for line in lines:
+        if line.startswith("use "):
+            names.update(re.split(r",\s*", line.partition("{")[2].rstrip("}")))
+        else:
+            names.update(re.findall(r"^(?:abbrev |unfoldable )?pub ([^\s:]+) :", line))
+    return names
+
+
 def of_definitions(lines):
     """(index, new line) for every wrong definition of a file of specs"""
+    names = in_scope(lines)
+    pairs = [(old, new) for old, new in PAIRS_ANTT if new.strip() in names or f"_{new.strip()}_" in names or new == "("]
     for i, line in enumerate(lines):
         bare = line.strip()
         if not bare or bare.startswith(("--", "use ", "pub mod", "abbrev ", "unfoldable ", "module ", "pub data", "pub record")) or " : " in line and "=" not in line:
             continue
         head, eq, tail = line.partition("=") if " = " in line else ("", "", line)
-        for rule in (numbers, lambda l: swaps(l, PAIRS_ANTT)):
+        for rule in (numbers, lambda l: swaps(l, pairs)):
             for new in rule(tail):
                 if new != tail:
                     yield i, head + eq + new
