@@ -170,6 +170,16 @@ struct lovemudarn_token_answer {
     bool on;               /* whether frontmatter may stand there */
 };
 
+/* Done: beside is tokens, and second is next. Refused: every number past the third is 0. */
+struct lovemudarn_run_answer {
+    uint32_t number;
+    size_t beside;
+    size_t second;
+    size_t tokens; /* how many were written */
+    size_t next;   /* the position past the last of them; where none was written, the position that was handed in */
+    bool on;       /* whether frontmatter may stand there */
+};
+
 /* Done: beside is check, and second the first number of the case. Refused: every number past the third is 0. */
 struct lovemudarn_raw_str_answer {
     uint32_t number;
@@ -210,6 +220,14 @@ struct lovemudarn_token_answer lovemudarn_token(const uint8_t *text, size_t text
  * slots[4 * i + 3]. `slots_len` counts numbers: it makes slots_len / 4 slots, and n bytes have at most n tokens. */
 struct lovemudarn_answer lovemudarn_tokens(const uint8_t *text, size_t text_len, const uint32_t *starts, size_t starts_len, const uint32_t *continues,
                                            size_t continues_len, const uint32_t *emoji, size_t emoji_len, bool on, uint32_t *slots, size_t slots_len);
+
+/* The tokens from a position on, without EOF, as many as the run has slots for: 1, 3, 2, 4, or 0. They are written as lovemudarn_tokens writes them; a start
+ * counts from the text's beginning. To go on, hand `next` and `on` back in; the text is at its end where `next` is `text_len`. Two calls, the second from where
+ * the first ended, give what one call with the slots of both gives. Each call checks the whole text and the lists first: for a text of n bytes lend 4 * (n / 8 + 256)
+ * numbers or more, and at most eight calls go through it, in time that grows as n does. */
+struct lovemudarn_run_answer lovemudarn_tokens_from(const uint8_t *text, size_t text_len, const uint32_t *starts, size_t starts_len,
+                                                    const uint32_t *continues, size_t continues_len, const uint32_t *emoji, size_t emoji_len, size_t at,
+                                                    bool on, uint32_t *slots, size_t slots_len);
 
 /* The key of a text: 1, 3, 2, 6, 7, or 0 with the bytes of the key beside it. The key is at most as long as the text. */
 struct lovemudarn_answer lovemudarn_key(const uint8_t *text, size_t text_len, const uint32_t *starts, size_t starts_len, const uint32_t *continues,

@@ -271,6 +271,54 @@ static void test_tokens(void) {
     holds("a list's letters", lettered, 8);
 }
 
+static void ran(const char *what, struct lovemudarn_run_answer a, unsigned long number, unsigned long beside, unsigned long second, unsigned long tokens,
+                unsigned long next, bool on) {
+    same(what, "number", a.number, number);
+    same(what, "beside", a.beside, beside);
+    same(what, "second", a.second, second);
+    same(what, "tokens", a.tokens, tokens);
+    same(what, "next", a.next, next);
+    same(what, "on", a.on, on);
+}
+
+/* so many tokens were written, and the run ended so */
+#define RAN(what, a, tokens, next, on) ran(what, a, LOVEMUDARN_DONE, tokens, next, tokens, next, on)
+#define NO_RUN(what, a, number, beside, second) ran(what, a, number, beside, second, 0, 0, false)
+#define FRONTED "\n---\nx\n---\n12_u8 y"
+
+static void test_tokens_from(void) {
+    /* a text in three parts, each from where the one before it ended; frontmatter may stand after whitespace and nowhere else */
+    static const uint32_t first[4] = {LOVEMUDARN_KIND_WHITESPACE, 0, 1, 0};
+    static const uint32_t second[8] = {LOVEMUDARN_KIND_FRONTMATTER, 0, 9, 1, LOVEMUDARN_KIND_WHITESPACE, 0, 1, 10};
+    static const uint32_t third[12] = {INT_1, 3, 5, 11, LOVEMUDARN_KIND_WHITESPACE, 0, 1, 16, LOVEMUDARN_KIND_IDENT, 0, 1, 17};
+    fill_run();
+    RAN("from: one slot", lovemudarn_tokens_from(TEXT(FRONTED), NO_LISTS, 0, true, run, 7), 1, 1, true);
+    holds("from: one slot", first, 4);
+    fill_run();
+    RAN("from: two slots", lovemudarn_tokens_from(TEXT(FRONTED), NO_LISTS, 1, true, run, 8), 2, 11, false);
+    holds("from: two slots", second, 8);
+    fill_run();
+    RAN("from: more slots than tokens", lovemudarn_tokens_from(TEXT(FRONTED), NO_LISTS, 11, false, run, 48), 3, 18, false);
+    holds("from: more slots than tokens", third, 12);
+    fill_run();
+    RAN("from: the end", lovemudarn_tokens_from(TEXT(FRONTED), NO_LISTS, 18, true, run, 48), 0, 18, true);
+    RAN("from: no slot", lovemudarn_tokens_from(TEXT(FRONTED), NO_LISTS, 1, true, run, 3), 0, 1, true);
+    RAN("from: nothing", lovemudarn_tokens_from(TEXT(""), NO_LISTS, 0, false, run, 48), 0, 0, false);
+    NO_RUN("from: past the end", lovemudarn_tokens_from(TEXT("a+1"), NO_LISTS, 4, true, run, 48), LOVEMUDARN_BAD_POSITION, 4, 0);
+    NO_RUN("from: inside a character", lovemudarn_tokens_from(TEXT("\303\251"), NO_LISTS, 1, true, run, 48), LOVEMUDARN_BAD_POSITION, 1, 0);
+    NO_RUN("from: 2 before 4", lovemudarn_tokens_from(TEXT("a+\377"), NO_LISTS, 9, true, run, 48), LOVEMUDARN_NOT_UTF8, 2, 0);
+    NO_RUN("from: ill-formed past the slots", lovemudarn_tokens_from(TEXT("a+\377"), NO_LISTS, 0, true, run, 4), LOVEMUDARN_NOT_UTF8, 2, 0);
+    NO_RUN("from: 3 before 2", lovemudarn_tokens_from(TEXT("a+\377"), NONE, LIST(half), NONE, 0, true, run, 48), LOVEMUDARN_BAD_LIST,
+           LOVEMUDARN_LIST_CONTINUES, 1);
+    holds("from: where nothing is written", some, 0);
+
+    /* a position past characters of several bytes, and a list's letters */
+    static const uint32_t lettered[4] = {LOVEMUDARN_KIND_IDENT, 0, 3, 5};
+    RAN("from: a list's letters", lovemudarn_tokens_from(TEXT("\360\237\230\200+a\303\251"), LIST(letters), LIST(letters), LIST(faces), 5, false, run, 48), 1, 8,
+        false);
+    holds("from: a list's letters", lettered, 4);
+}
+
 static uint8_t out[32];
 
 static void fill_out(void) {
@@ -439,6 +487,8 @@ static void test_too_long(void) {
     answer("tokens: too long", lovemudarn_tokens(text, len, LIST(low), NONE, NONE, false, run, 0), LOVEMUDARN_TOO_LONG, 0, 0);
     answer("tokens: too long", lovemudarn_tokens(text, len, LIST(low), NONE, NONE, false, run, 48), LOVEMUDARN_TOO_LONG, 0, 0);
     holds("tokens: too long", some, 0);
+    NO_RUN("from: too long", lovemudarn_tokens_from(text, len, LIST(low), NONE, NONE, 0, true, run, 48), LOVEMUDARN_TOO_LONG, 0, 0);
+    holds("from: too long", some, 0);
     fill_out();
     answer("key: too long", lovemudarn_key(text, len, LIST(low), NONE, NONE, out, 32), LOVEMUDARN_TOO_LONG, 0, 0);
     key_holds("key: too long", "", 0);
@@ -453,6 +503,7 @@ int main(void) {
     test_check();
     test_token();
     test_tokens();
+    test_tokens_from();
     test_key();
     test_is_ident();
     test_strip_shebang();

@@ -8,8 +8,10 @@ use Rattle.exports.specs.declared.Answer.{Answer}
 use Rattle.exports.specs.declared.TokenAnswer.{TokenAnswer}
 use Rattle.exports.specs.declared.RawStrAnswer.{RawStrAnswer}
 use Rattle.exports.specs.declared.GuardedStrAnswer.{GuardedStrAnswer}
+use Rattle.exports.specs.declared.RunAnswer.{RunAnswer}
 use Rattle.exports.specs.Shebangs.{StrippedOut}
 use Rattle.exports.specs.Buffers.{TokensOut, KeyOut}
+use Rattle.exports.specs.Runs.{RunOut}
 use Rattle.exports.proofs.lovemudarn_check.Reads as check
 use Rattle.exports.proofs.lovemudarn_token.Reads as token
 use Rattle.exports.proofs.lovemudarn_is_ident.Reads as ident
@@ -30,6 +32,13 @@ module _ {limit : ℕ} {s before after later : List ℕ} {L : Lists} {on : Bool}
 
   pub one-tokens-run : after ≡ later
   one-tokens-run = f .holds ∙ sym (g .holds)
+
+module _ {limit at : ℕ} {s before after later : List ℕ} {L : Lists} {on : Bool} {r q : RunAnswer} (f : RunOut limit s L at on before after r) (g : RunOut limit s L at on before later q) where
+  pub one-run-answer : r ≡ q
+  one-run-answer = f .answer ∙ sym (g .answer)
+
+  pub one-run : after ≡ later
+  one-run = f .holds ∙ sym (g .holds)
 
 module _ {limit : ℕ} {s before after later : List ℕ} {L : Lists} {r q : Answer} (f : KeyOut limit s L before after r) (g : KeyOut limit s L before later q) where
   pub one-key-answer : r ≡ q

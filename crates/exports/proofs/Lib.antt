@@ -1,3 +1,6 @@
 pub mod Outs
+pub mod Runs
+pub mod Goings
+pub mod Blocks
 pub mod Shebangs
 pub mod Answers

@@ -4,3 +4,4 @@ pub mod RawStrs
 pub mod Guards
 pub mod Shebangs
 pub mod Buffers
+pub mod Runs

@@ -16,9 +16,11 @@ ghost use Rattle.exports.specs.RawStrs.{rawOf, noEndOf, errorOf, checkOf
 ghost use Rattle.exports.specs.Guards.{noString, foundOf, guardedOut};
 ghost use Rattle.exports.specs.Shebangs.{StrippedOut};
 ghost use Rattle.exports.specs.Buffers.{TokensOut, KeyOut};
+ghost use Rattle.exports.specs.Runs.{noRun, ranOut, Going, RunPut, RunOut};
 use lexer::OneToken;
 use lexer::Scan;
 use refusal::Numbers;
+use refusal::Verdict;
 use strings::GuardedAnswer;
 use strings::RawAnswer;
 use token::Guarded;
@@ -45,6 +47,18 @@ pub struct TokenAnswer {
     pub suffix_start: u32,
     pub len: u32,
     pub start: usize,
+    pub next: usize,
+    pub on: bool,
+}
+
+// The answer of the call that goes on from a position. Done: the number of tokens and the position past the last of them are beside the 0, and stand in
+// `tokens` and `next` too; `on` says whether frontmatter is on there. Refused: every number past the third is 0.
+#[repr(C)]
+pub struct RunAnswer {
+    pub number: u32,
+    pub beside: usize,
+    pub second: usize,
+    pub tokens: usize,
     pub next: usize,
     pub on: bool,
 }
@@ -133,6 +147,62 @@ fn token_out(answer: OneToken) -> TokenAnswer
         OneToken::Position(_) => no_token(n),
         OneToken::Refused(_) => no_token(n),
     }
+}
+
+// A refused call that goes on.
+fn no_run(n: Numbers) -> RunAnswer
+    ensures { λ r. ⌜ r ≡ noRun n ⌝ }
+{
+    RunAnswer {
+        number: n.number,
+        beside: n.beside,
+        second: n.second,
+        tokens: 0,
+        next: 0,
+        on: false,
+    }
+}
+
+// So many tokens, up to a scan.
+fn ran_out(tokens: usize, scan: Scan) -> RunAnswer
+    ensures { λ r. ⌜ r ≡ ranOut tokens scan ⌝ }
+{
+    RunAnswer {
+        number: 0,
+        beside: tokens,
+        second: scan.next,
+        tokens,
+        next: scan.next,
+        on: scan.on,
+    }
+}
+
+// Writes the numbers of the tokens from a position on, until the text or the slots end.
+fn put_run(
+    text: &[u8],
+    starts: &[u32],
+    continues: &[u32],
+    emoji: &[u32],
+    at: usize,
+    on: bool,
+    slots: &mut [u32],
+) -> RunAnswer
+    requires { ⌜ Going (lent (now starts) (now continues) (now emoji)) (now text) at ⌝ }
+    ensures { λ r. ⌜ RunPut (lent (now (starts .entry)) (now (continues .entry)) (now (emoji .entry))) (now (text .entry)) at on (now (slots .entry)) (now (slots .exit)) r ⌝ }
+{
+    let mut left = slots.len() / 4;
+    let mut used: usize = 0;
+    let mut scan = lexer::before(at, on);
+    while 0 < left {
+        if text.len() <= scan.next {
+            return ran_out(used / 4, scan);
+        }
+        scan = lexer::step(text, starts, continues, emoji, scan);
+        let token = scan.token;
+        used = slots::put_token(slots, used, token);
+        left = left - 1;
+    }
+    ran_out(used / 4, scan)
 }
 
 // The three numbers, and those of a case of the raw check.
@@ -294,6 +364,35 @@ pub extern "C" fn lovemudarn_tokens(
 {
     let answer = slots::tokens(text, starts, continues, emoji, on, slots);
     answer_of(plan::list_numbers(answer))
+}
+
+// The tokens from a position on, four numbers each, as many as the run has slots for: 1, 3, 2, 4, or 0 with how many, the position past them and whether
+// frontmatter is on there, from which the next call goes on. Only 0 writes.
+#[no_mangle]
+pub extern "C" fn lovemudarn_tokens_from(
+    text: &[u8],
+    starts: &[u32],
+    continues: &[u32],
+    emoji: &[u32],
+    at: usize,
+    on: bool,
+    slots: &mut [u32],
+) -> RunAnswer
+    ensures { λ r. do ⌜ RunOut (← ⟦ranges::MAX_PAIRS⟧ .entry) (now (text .entry)) (lent (now (starts .entry)) (now (continues .entry)) (now (emoji .entry))) at on (now (slots .entry)) (now (slots .exit)) r ⌝ }
+{
+    match lexer::token_verdict(text, starts, continues, emoji) {
+        Verdict::Fine => {
+            if text::starts_here(text, at) {
+                return put_run(text, starts, continues, emoji, at, on, slots);
+            }
+            no_run(Numbers {
+                number: 4,
+                beside: at,
+                second: 0,
+            })
+        }
+        Verdict::Refused(bad) => no_run(refusal::bad_numbers(bad)),
+    }
 }
 
 // The key of a text: 1, 3, 2, 6 with the start of the first broken token, 7 with the bytes needed, or 0 with the key's bytes. Only 0 writes.

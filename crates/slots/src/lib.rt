@@ -24,7 +24,7 @@ fn put_four(slots: &mut [u32], n: usize, a: u32, b: u32, c: u32, d: u32) -> usiz
 }
 
 // Puts the four numbers of a token, one of a text within the limit: its start is one of them whole.
-fn put_token(slots: &mut [u32], n: usize, token: Token) -> usize
+pub fn put_token(slots: &mut [u32], n: usize, token: Token) -> usize
     requires { ⌜ TokenFits (now slots) n token ⌝ }
     ensures { λ r. ⌜ Put (fourOf token) (now (slots .entry)) n (now (slots .exit)) r ⌝ }
 {
