@@ -1,9 +1,8 @@
 -- What the call that goes on answers and leaves, by its cases, in the facts of the code.
 use Prim.Native.Nat.{ℕ}
-use mathlib.Core.Path.{_≡_, refl, sym, ap, _∙_}
+use mathlib.Core.Path.{_≡_, sym, ap, _∙_}
 use mathlib.Core.Bool.{Bool, true, false}
 use mathlib.Core.List.{List}
-use Rattle.basics.specs.Choice.{pick}
 use Rattle.refusal.specs.declared.Bad.{Bad}
 use Rattle.refusal.specs.declared.Numbers.{Numbers}
 use Rattle.refusal.specs.declared.Verdict.{Verdict}
@@ -15,7 +14,8 @@ use Rattle.token.specs.Lists.{Lists}
 use Rattle.lexer.specs.Answers.{tokenVerdict}
 use Rattle.lexer.proofs.Checks.{fine-checked}
 use Rattle.exports.specs.declared.RunAnswer.{RunAnswer}
-use Rattle.exports.specs.Runs.{noRun, atBoundary, Going, RunPut, RunOut}
+use Rattle.exports.specs.Runs.{noRun, atBoundary, RunOut}
+use Rattle.exports.specs.Going.{Going, RunPut}
 
 module _ (limit : ℕ) (s : List ℕ) (L : Lists) {v : Verdict} (e : v ≡ tokenVerdict limit s L) where
   -- the checks let through, and the position is asked

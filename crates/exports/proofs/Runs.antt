@@ -18,7 +18,8 @@ use Rattle.slots.specs.Numbers.{fourOf, numbersOf}
 use Rattle.slots.specs.Fills.{TokenFits}
 use Rattle.slots.proofs.Fillings.{numbers-long}
 use Rattle.exports.specs.declared.RunAnswer.{RunAnswer}
-use Rattle.exports.specs.Runs.{firstTokens, stepped, ranOut, written, Going, RunPut}
+use Rattle.exports.specs.Runs.{firstTokens, stepped, ranOut}
+use Rattle.exports.specs.Going.{Going, RunPut}
 
 -- no more are taken than there are slots
 take-few : {A : Type 0} (n : ℕ) (xs : List A) → length (take n xs) ≤ n

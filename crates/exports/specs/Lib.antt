@@ -5,3 +5,4 @@ pub mod Guards
 pub mod Shebangs
 pub mod Buffers
 pub mod Runs
+pub mod Going

@@ -1,7 +1,7 @@
 -- The call that goes on from a position: the tokens from there on, as many as a lent run has slots for, what is answered and what the run holds then.
 use Prim.Native.Nat.{ℕ, zero, suc, _*_, _/_}
 use mathlib.Core.Path.{_≡_}
-use mathlib.Core.Bool.{Bool, true, false}
+use mathlib.Core.Bool.{Bool, false}
 use mathlib.Core.List.{List, _++_}
 use lib.ListN.{length, take, drop}
 use Rattle.basics.specs.Choice.{pick}
@@ -12,7 +12,6 @@ use Rattle.text.specs.Position.{onBoundary}
 use Rattle.token.specs.declared.Token.{Token}
 use Rattle.token.specs.Lists.{Lists}
 use Rattle.lexer.specs.declared.Scan.{Scan}
-use Rattle.lexer.specs.Checked.{Checked}
 use Rattle.lexer.specs.Scans.{recordsFrom}
 use Rattle.lexer.specs.Steps.{beforeOf, nextOf}
 use Rattle.lexer.specs.Answers.{tokenVerdict}
@@ -52,13 +51,3 @@ atBoundary limit s L at refused done = refusedOr (λ bad. refused (badNumbers ba
 pub record RunOut (limit : ℕ) (s : List ℕ) (L : Lists) (at : ℕ) (on : Bool) (before after : List ℕ) (r : RunAnswer) : Type 0 where
   pub answer : r ≡ atBoundary limit s L at noRun (ranOver L s at on (firstTokens L s at on (length before / 4)))
   pub holds : after ≡ atBoundary limit s L at (λ n. before) (written (firstTokens L s at on (length before / 4)) before)
-
--- what writing them asks: the text and the lists were checked, and the position is a boundary
-pub record Going (L : Lists) (s : List ℕ) (at : ℕ) : Type 0 where
-  pub checked : Checked s L
-  pub edged : onBoundary s at ≡ true
-
--- and what it does
-pub record RunPut (L : Lists) (s : List ℕ) (at : ℕ) (on : Bool) (before after : List ℕ) (r : RunAnswer) : Type 0 where
-  pub answer : r ≡ ranOver L s at on (firstTokens L s at on (length before / 4))
-  pub holds : after ≡ written (firstTokens L s at on (length before / 4)) before

@@ -16,7 +16,8 @@ ghost use Rattle.exports.specs.RawStrs.{rawOf, noEndOf, errorOf, checkOf
 ghost use Rattle.exports.specs.Guards.{noString, foundOf, guardedOut};
 ghost use Rattle.exports.specs.Shebangs.{StrippedOut};
 ghost use Rattle.exports.specs.Buffers.{TokensOut, KeyOut};
-ghost use Rattle.exports.specs.Runs.{noRun, ranOut, Going, RunPut, RunOut};
+ghost use Rattle.exports.specs.Runs.{noRun, ranOut, RunOut};
+ghost use Rattle.exports.specs.Going.{Going, RunPut};
 use lexer::OneToken;
 use lexer::Scan;
 use refusal::Numbers;
