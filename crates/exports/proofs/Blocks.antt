@@ -1,14 +1,16 @@
 -- Going on loses nothing: a text that is asked for in parts, each from where the one before it ended, gives the tokens that one call gives.
-use Prim.Native.Nat.{ℕ, zero, suc, _+_}
+use Prim.Native.Nat.{ℕ, zero, suc, _+_, _≤_}
 use mathlib.Core.Path.{_≡_, refl, sym, ap, _∙_}
 use mathlib.Core.Bool.{Bool, true}
 use mathlib.Core.List.{List, [], _∷_, _++_}
 use lib.ListN.{length, take, drop}
+use lib.Seq.{take-all}
 use native.Mathlib.Omega.{arith}
 use Rattle.text.specs.Chars.{chars}
 use Rattle.text.specs.Position.{onBoundary}
 use Rattle.token.specs.declared.Token.{Token}
 use Rattle.token.specs.Lists.{Lists}
+use Rattle.token.specs.Tokens.{records}
 use Rattle.lexer.specs.declared.Scan.{Scan}
 use Rattle.lexer.specs.Steps.{beforeOf, nextOf, recordsPast}
 use Rattle.lexer.proofs.Walks.{records-none, next-edged, next-records}
@@ -59,3 +61,7 @@ stepped-edged L s (suc n) c b = stepped-edged L s n (nextOf L s c) (next-edged L
 -- AND THE SECOND is not refused its position
 pub goes-on : (L : Lists) (s : List ℕ) (at : ℕ) (on : Bool) (ts : List Token) → onBoundary s at ≡ true → onBoundary s (ranOver L s at on ts .next) ≡ true
 goes-on L s at on ts b = stepped-edged L s (length ts) (beforeOf at on) b
+
+-- FROM THE BEGINNING, with a slot for each, it gives the tokens that the list call gives
+pub gives-all : (L : Lists) (s : List ℕ) (on : Bool) (n : ℕ) → length (records L on s) ≤ n → firstTokens L s 0 on n ≡ records L on s
+gives-all L s on n h = take-all n (records L on s) h
