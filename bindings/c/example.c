@@ -1,7 +1,7 @@
 /* The key and the tokens of standard input, or why it has none: how the calls are used from C.
  *
- *   rt staticlib exports
- *   gcc -std=c99 -Ibindings/c bindings/c/example.c target/staticlib/libexports.a -o example
+ *   tools/native-archive exports target/archive/liblovemudarn.a
+ *   gcc -std=c99 -Ibindings/c bindings/c/example.c target/archive/liblovemudarn.a -o example
  *   ./example <rule.rs
  */
 #include <stdio.h>

@@ -1,4 +1,4 @@
-/* Lovemudarn for C99: the calls of the archive that `rt staticlib exports` writes (target/staticlib/libexports.a, x86-64 Linux).
+/* Lovemudarn for C99: the calls of the archive liblovemudarn.a, for Linux on x86-64 or on Arm. tools/native-archive makes it.
  * The promises of these calls are proved: crates/exports, whose definitions this page puts into words.
  *
  * SLICES. A slice goes in as two arguments: a pointer to its first element, and the number of its elements (bytes of a text or a buffer, numbers of a

@@ -302,7 +302,11 @@ fn profile(words: &[&str], lists: Lists) -> Result<(), String> {
     };
     let number = |word: &str| word.parse::<usize>().map_err(|_| format!("no number: {word}"));
     let mut bench = Bench::new(source(number(kib)? * 1024, choice(text)?), lists);
-    for _ in 0..number(count)? {
+    let count = number(count)?;
+    if count == 0 {
+        return Err("0 times is nothing".to_string());
+    }
+    for _ in 0..count {
         black_box(bench.run(work, side)).ok_or("refused")?;
     }
     Ok(())
