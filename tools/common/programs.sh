@@ -261,8 +261,8 @@ run() {
 is_refused() { { [ "$(head -c 8 "$room/answer")" = "refused$tab" ]; } 2>/dev/null; }
 
 # Reads the lines of print_tokens, a line `=` and the bytes. Empty and full lists part a text alike as far as no character past ASCII is asked for in a list, and
-# then the token, or the one after it, is: Unknown; a literal of a quote and more than one character, the first past ASCII, which may be a lifetime; or r# before
-# a character past ASCII, which may be a raw name. Without `keys` the first such place is written.
+# there is then one of these: a token Unknown; a literal of a quote and more than one character, the first past ASCII, which may be a lifetime; r# before a
+# character past ASCII, which may be a raw name. Without `keys` the first such place is written.
 # With it the first place at which a key may be another one: the quote as before (the raw name is refused as broken); a name with a character past ASCII that
 # ends right before a quote or a #, unless that character itself stands before " or #, where what follows is read alike.
 doubts='
@@ -329,7 +329,7 @@ warn() {
     {
         show_place 'warning: with Unicode lists these tokens may be others'
         echo '  What it means: this tool reads without Unicode lists. Here a character past ASCII stands outside of comments and literals, or begins what may be a'
-        echo '    lifetime, a label or a raw name. With lists, as in rustc, it may be part of a name: from the token that ends or begins here on they may be others.'
+        echo '    lifetime, a label or a raw name. With lists, as in rustc, it may be part of a name, which may begin before it, and the text may part into other tokens.'
         echo '  What to do: if these tokens matter, use the C, Rust or Rattle interface, with Unicode lists (docs/GUIDE.md); or write the name in ASCII.'
     } >&2
 }
@@ -420,10 +420,15 @@ let_go() {
     mv "$lock/ending-$me" "$lock/free" 2>/dev/null
 }
 
-# watch: ends the build where this run is gone and could not do it
+# watch: ends the build, and removes what is temporary, where this run is gone and could not do it
 watch() {
     while [ -e "$lock/held-$me" ]; do
-        if gone "$me"; then let_go; else sleep 1; fi
+        if gone "$me"; then
+            let_go
+            rm -rf "$room"
+        else
+            sleep 1
+        fi
     done
 }
 
