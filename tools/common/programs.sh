@@ -186,7 +186,7 @@ take() {
         if [ ! -e "$1" ]; then unread 'there is no such file'; return; fi
         if [ ! -r "$1" ]; then unread 'you have no permission to read it'; return; fi
     fi
-    : >"$room/ended" || full
+    true >"$room/ended" || full
     {
         if [ "$1" = - ]; then head -c $((limit + 1)); else head -c $((limit + 1)) <"$1"; fi
         echo $? >"$room/ended"
@@ -243,7 +243,7 @@ program() {
 
 # run PROGRAM: what the program writes for the copy. It does not tell when a write fails, so that it writes into a pipe and cat writes the file.
 run() {
-    : >"$room/ended" || full
+    true >"$room/ended" || full
     {
         program "$1" <"$room/text" 2>"$room/complaint"
         echo $? >"$room/ended"
@@ -392,14 +392,16 @@ pause() {
 grab() {
     if [ ! -d "$lock" ]; then
         # it is made elsewhere with its entry, and put in its place whole; where another run was faster, mv fails or puts it inside
-        mkdir "$lock-$me" && : >"$lock-$me/free" && mv "$lock-$me" "$lock" 2>/dev/null
+        mkdir "$lock-$me" && true >"$lock-$me/free" && mv "$lock-$me" "$lock" 2>/dev/null
         rm -rf "$lock-$me" "$lock/lock-$me"
+        [ -d "$lock" ] || die "$state cannot be written"
     fi
+    owner=
     for entry in "$lock"/*; do
-        owner=${entry##*/}
-        case $owner in
+        case ${entry##*/} in
         free) ;;
         held-* | ending-*)
+            owner=${entry##*/}
             owner=${owner#*-}
             gone "$owner" || continue
             ;;
@@ -410,6 +412,8 @@ grab() {
         end_builds "<$root><" || die 'a build that an earlier run has left cannot be ended'
         return 0
     done
+    # a lock without an entry is none, and this removes no other
+    rmdir "$lock" 2>/dev/null
     return 1
 }
 
@@ -499,12 +503,15 @@ build() {
     name_me
     waits=
     until grab; do
-        if [ -z "$waits" ]; then
-            echo "$tool: waiting for another run, which builds the programs (process ${owner%%-*} on ${owner##*-}; if it is gone all the same, remove $lock)" >&2
+        if [ -z "$waits" ] && [ -n "$owner" ]; then
+            waits="process ${owner%%-*} on ${owner##*-}"
+            echo "$tool: waiting for another run, which builds the programs ($waits; if it is gone all the same, remove $lock)" >&2
         fi
-        waits=yes
         pause
-        if is_built "$@"; then return; fi
+        if is_built "$@"; then
+            me=
+            return
+        fi
     done
     is_built "$@" || build_held "$@"
     let_go
