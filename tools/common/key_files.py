@@ -3,6 +3,7 @@
 import sys
 
 from common.chance import Numbers
+from common.ending import fail
 from common.lists import EVERYTHING, GOOD, NO_LISTS, counted_lists, full_list, refused_lists
 from common.packing import MOST_ROOM, numbers_in
 from common.texts import (
@@ -75,7 +76,7 @@ def rows(maker):
         for text, key in KEYS:
             text, key = text.encode("utf-8"), key.encode("utf-8")
             if calls.keyed(text) != (None, key):
-                sys.exit(f"{text!r}: {calls.keyed(text)}, not {key!r}")
+                fail(f"{text!r}: {calls.keyed(text)}, not {key!r}")
             for room in sorted({max(len(key) - 1, 0), len(key), len(key) + 2}):
                 calls.key(room, FILLS[(room + len(text)) % len(FILLS)], text)
         for text in named_texts():
@@ -99,7 +100,7 @@ def rows(maker):
 def broken_at(calls, numbers, place, text):
     refused, key = calls.keyed(text)
     if key is not None or numbers_in(refused) != (6, place, 0):
-        sys.exit(f"{text!r} is not broken at {place}")
+        fail(f"{text!r} is not broken at {place}")
     if numbers is None:
         calls.key(0, 0x00, text)
         calls.key(1, 0x61, text)

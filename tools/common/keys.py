@@ -6,7 +6,8 @@ is the text with each longest run of trivia, at the ends too, as one newline byt
 """
 
 import itertools
-import sys
+
+from common.ending import fail
 
 
 class Piece:
@@ -27,7 +28,7 @@ def pieces(text, words):
         start += len(piece.bytes)
         found.append(piece)
     if b"".join(piece.bytes for piece in found) != text:
-        sys.exit(f"the tokens are not the text: {text.hex()}")
+        fail(f"the tokens are not the text: {text.hex()}")
     return found
 
 

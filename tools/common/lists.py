@@ -8,6 +8,7 @@ import subprocess
 import sys
 
 from common.chance import Numbers
+from common.ending import fail
 
 TOOLS = os.path.dirname(os.path.dirname(os.path.abspath(__file__)))
 LIST_NAMES = ["start", "continue", "emoji"]
@@ -84,9 +85,13 @@ def full_list(seed, count=2048):
 
 
 def read_real(arguments):
+    """Unicode's lists, as tools/unicode-lists prints them; it says itself what is missing."""
     lists = ([], [], [])
     command = [sys.executable, os.path.join(TOOLS, "unicode-lists")] + arguments
-    for line in subprocess.run(command, check=True, stdout=subprocess.PIPE, text=True).stdout.splitlines():
+    done = subprocess.run(command, stdout=subprocess.PIPE, text=True)
+    if done.returncode != 0:
+        fail("there are no Unicode lists to work with")
+    for line in done.stdout.splitlines():
         name, low, high = line.split()
         lists[LIST_NAMES.index(name)].extend((int(low, 16), int(high, 16)))
     return lists
@@ -143,7 +148,7 @@ def refused_lists():
     lists.append(([0xAA, 0xAA, 0x2000, 0x2030, 0xE000, 0xE000, 0xFFFFFFFF], 1))
     for numbers, index in lists:
         if bad_index(numbers) != index:
-            sys.exit(f"refused list {numbers} is not refused as meant")
+            fail(f"refused list {numbers} is not refused as meant")
     return lists
 
 
@@ -165,5 +170,5 @@ def counted_lists():
     }
     for name, (numbers, index) in lists.items():
         if bad_index(numbers) != index:
-            sys.exit(f"{name}: {bad_index(numbers)}")
+            fail(f"{name}: {bad_index(numbers)}")
     return {name: numbers for name, (numbers, _) in lists.items()}

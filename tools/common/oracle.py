@@ -1,33 +1,42 @@
 """The oracle of tools/oracle, asked from Python."""
 
 import subprocess
-import sys
 
+from common.ending import fail
 from common.lists import LIST_NAMES, bad_index
 from common.packing import CLASS_NAMES, START
 
 
 class Oracle:
     def __init__(self, program):
-        self.process = subprocess.Popen(
-            [program], stdin=subprocess.PIPE, stdout=subprocess.PIPE, text=True, encoding="ascii"
-        )
+        try:
+            self.process = subprocess.Popen(
+                [program], stdin=subprocess.PIPE, stdout=subprocess.PIPE, text=True, encoding="ascii"
+            )
+        except OSError as error:
+            fail(f"the oracle {program} cannot be run: {error.strerror}. tools/oracle/build LIB_RS OUT_DIR makes it, as OUT_DIR/oracle")
+        self.program = program
         self.lent = {}
         self.known_runs = {}
 
     def ask(self, request):
-        self.process.stdin.write(request + "\n")
-        self.process.stdin.flush()
-        answer = self.process.stdout.readline().rstrip("\n")
-        if not answer or answer.startswith("error"):
-            sys.exit(f"oracle: {request[:80]}: {answer}")
+        try:
+            self.process.stdin.write(request + "\n")
+            self.process.stdin.flush()
+            answer = self.process.stdout.readline().rstrip("\n")
+        except BrokenPipeError:
+            answer = ""
+        if not answer:
+            fail(f"the oracle {self.program} gives no answer to {request[:80]}")
+        if answer.startswith("error"):
+            fail(f"the oracle {self.program} says to {request[:80]}: {answer}")
         return answer
 
     def lend(self, which, numbers):
         numbers = tuple(numbers)
         if self.lent.get(which) != numbers:
             if bad_index(numbers) is not None:
-                sys.exit("the oracle is lent good lists only")
+                fail("the oracle is lent good lists only")
             words = " ".join(f"{number:x}" for number in numbers)
             self.ask(f"list {LIST_NAMES[which]} {words}")
             self.lent[which] = numbers
@@ -43,7 +52,7 @@ class Oracle:
         except UnicodeDecodeError as error:
             seen = error.start
         if seen != place:
-            sys.exit(f"two decoders differ on {text.hex()}: {place} and {seen}")
+            fail(f"two decoders differ on {text.hex()}: {place} and {seen}")
         return place
 
     def verdict_after(self, prefix):

@@ -4,6 +4,8 @@ import os
 import struct
 import sys
 
+from common.ending import fail
+
 FILE_LIMIT = 262144
 ANSWER_LIMIT = 65536
 
@@ -75,7 +77,7 @@ def read_back(data):
     def number():
         nonlocal at
         if at + 4 > len(data):
-            sys.exit("a file ends too early")
+            fail("a file ends too early")
         at += 4
         return data[at - 4] + 256 * data[at - 3] + 65536 * data[at - 2] + 16777216 * data[at - 1]
 
@@ -83,7 +85,7 @@ def read_back(data):
         for _ in range(3):
             length = number()
             if length > 4200:
-                sys.exit("a list is too long")
+                fail("a list is too long")
             at += 4 * length
         count = number()
         for _ in range(count):
@@ -94,10 +96,10 @@ def read_back(data):
             answer = number()
             at += answer
             if not of_the_format(operation, given, answer):
-                sys.exit("a vector is not of the format")
+                fail("a vector is not of the format")
         total += count
     if at != len(data):
-        sys.exit("a file does not end where its last section ends")
+        fail("a file does not end where its last section ends")
     return total
 
 
@@ -118,11 +120,13 @@ def write_files(folder, files, quiet=False):
     for name, sections in files.items():
         data = b"".join(sections)
         if len(data) > FILE_LIMIT:
-            sys.exit(f"{name} is too long: {len(data)} bytes")
+            fail(f"{name} is too long: {len(data)} bytes")
         with open(os.path.join(folder, name), "wb") as file:
             file.write(data)
         with open(os.path.join(folder, name), "rb") as file:
             count = read_back(file.read())
+        if count == 0:
+            fail(f"{name} has no vector")
         if not quiet:
             print(f"{name}: {len(data)} bytes, {count} vectors", file=sys.stderr)
         lines.append(f"{name}: {count} agree, 0 differ\n")

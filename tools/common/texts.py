@@ -3,9 +3,9 @@ tools/oracle/main.rs has their form. A request without its TEXT is about the emp
 """
 
 import itertools
-import sys
 
 from common.chance import Numbers
+from common.ending import fail
 from common.lists import ALL_ALLOWED, flat
 
 WHITESPACE = "\t\n\x0b\x0c\r \x85\u200e\u200f\u2028\u2029"
@@ -170,12 +170,12 @@ def rows(oracle):
     for mode, text, first in ROWS:
         answer = oracle.ask(tokens(mode, text))
         if answer.split()[0] != first:
-            sys.exit(f"{text!r}: {answer}, not {first}")
+            fail(f"{text!r}: {answer}, not {first}")
         requests += [tokens(mode, text), tokens("on" if mode == "off" else "off", text)]
     for asked, expected in OTHER_ROWS:
         answer = oracle.ask(asked)
         if answer != expected:
-            sys.exit(f"{asked}: {answer}, not {expected}")
+            fail(f"{asked}: {answer}, not {expected}")
         requests.append(asked)
     # Each row's text after other tokens, too.
     return requests + [tokens("off", f"a {text}") for _, text, _ in ROWS]

@@ -2,6 +2,7 @@
 
 import sys
 
+from common.ending import fail
 from common.lists import EVERYTHING, GOOD, NO_LISTS, counted_lists, full_list, refused_lists
 from common.packing import ANSWER_LIMIT, RECORDS, TOKENS, TOKENS_ONCE, numbers_of, section, vector
 from common.texts import (
@@ -213,7 +214,7 @@ class Files:
         lines, rest = divmod(most - 1, len(self.steps(LINE.encode("ascii"))) - 1)
         text = LINE * lines + ";" * rest
         if len(self.steps(text.encode("ascii"))) != most:
-            sys.exit("the longest answer is not as meant")
+            fail("the longest answer is not as meant")
         return tokens("on", text)
 
     # ---- the list call ----
@@ -271,10 +272,10 @@ class Files:
         for count in (3, 4, 255, 256, 257, 4096, 65534, 65535):
             text = fenced(count)
             if self.steps(text) != fence_tokens(len(text)):
-                sys.exit(f"a fence of {count} dashes is not read as the rule says")
+                fail(f"a fence of {count} dashes is not read as the rule says")
         text = fenced(65536)
         if self.steps(text) is not None:
-            sys.exit("the Rust has an answer for 65,536 dashes")
+            fail("the Rust has an answer for 65,536 dashes")
         answer = b"".join(numbers_of(*token_numbers(word)) for word in fence_tokens(len(text)))
         return [section(NO_LISTS, [vector(TOKENS_ONCE, numbers_of(1) + text, answer)])]
 

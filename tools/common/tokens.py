@@ -4,8 +4,7 @@ What the Rust can say comes from the oracle. The Rust has no word for a refusal:
 rules of the scope paper are applied here, in the plainest way and in the paper's order.
 """
 
-import sys
-
+from common.ending import fail
 from common.keys import first_broken, key_of, pieces
 from common.lists import bad_index
 from common.packing import (
@@ -59,7 +58,7 @@ def detail_of(kind, holds):
     if kind == "Literal":
         return literal_detail(*holds)
     if holds:
-        sys.exit(f"{kind} holds nothing")
+        fail(f"{kind} holds nothing")
     return 0
 
 
@@ -74,7 +73,7 @@ def check_flags(flag, tokens):
     """The paper's rule: off stays off; on stays on through whitespace and at Eof only."""
     for code, _, _, after in tokens:
         if after != (flag and KINDS[code % 64] in ("Whitespace", "Eof")):
-            sys.exit(f"a flag is not the paper's: {tokens}")
+            fail(f"a flag is not the paper's: {tokens}")
         flag = after
 
 
@@ -162,7 +161,7 @@ class Calls:
         """The tokens without Eof by a second witness, the iterator of 000, which gives the same ones."""
         listed = [word for word in self.ask("tokens", MODES[flag], text.hex()) if word != "-"]
         if listed != [word.rsplit(",", 1)[0] for word in words[:-1]]:
-            sys.exit(f"two ways of reading tokens differ on {text.hex()}")
+            fail(f"two ways of reading tokens differ on {text.hex()}")
         return listed
 
     def token_list(self, flag, text, words):
@@ -171,7 +170,7 @@ class Calls:
         check_flags(flag, tokens)
         lengths = [length for _, _, length, _ in tokens]
         if not all(lengths[:-1]) or lengths[-1] != 0 or sum(lengths) != len(text):
-            sys.exit(f"the lengths do not add up on {text.hex()}")
+            fail(f"the lengths do not add up on {text.hex()}")
         answer = b"".join(numbers_of(*token) for token in tokens)
         self.too_long += len(answer) > self.answer_limit
         return answer if len(answer) <= self.answer_limit else None
@@ -221,7 +220,7 @@ class Calls:
             self.keys[text] = refused, key
             # True of every key: it is no longer than its text, and its own key.
             if key is not None and (len(key) > len(text) or self.keyed(key) != (None, key)):
-                sys.exit(f"not a key: {key.hex()}, of {text.hex()}")
+                fail(f"not a key: {key.hex()}, of {text.hex()}")
         return self.keys[text]
 
     def key(self, room, fill, text):
@@ -284,7 +283,7 @@ class Calls:
             elif name == "guarded":
                 self.guarded(int(words[0], 16), text)
             else:
-                sys.exit(f"no such request: {line[:80]}")
+                fail(f"no such request: {line[:80]}")
 
 
 def raw_answer(name, *words):
@@ -298,7 +297,7 @@ def raw_answer(name, *words):
         return numbers_of(0, 2, expected, found, *offset)
     if name == "TooManyDelimiters":
         return numbers_of(0, 3, int(words[0], 16), 0, 0, 0)
-    sys.exit(f"no such raw error: {name}")
+    fail(f"no such raw error: {name}")
 
 
 def guarded_answer(position, text, name, *words):
@@ -306,9 +305,9 @@ def guarded_answer(position, text, name, *words):
     if name == "none":
         rest = text[position:]
         if stands != position + len(rest) - len(rest.lstrip(b"#")):
-            sys.exit("the cursor does not stand after the hashes")
+            fail("the cursor does not stand after the hashes")
         return numbers_of(0, 0, 0, 0, 0, stands)
     hashes, terminated, length = int(words[0], 16), truth(words[1]), int(words[2], 16)
     if stands != position + length:
-        sys.exit("a guarded string ends elsewhere than its length says")
+        fail("a guarded string ends elsewhere than its length says")
     return numbers_of(0, 1, hashes, terminated, length, stands)
