@@ -15,7 +15,7 @@ def fail(why):
     sys.exit(2)
 
 
-def guarded(main, *arguments):
+def run_main(main, *arguments):
     """Runs main, which ends as it says itself; whatever else goes wrong ends with 2 too."""
     try:
         main(*arguments)
