@@ -46,6 +46,12 @@ fn fault(archive: &Path, target: &str, system: &str) -> Option<String> {
     if system != "linux" {
         return Some(format!("the archive is for Linux, and this crate is built for {system}"));
     }
+    // cargo runs this file in one folder and the linker in another, and the caller stood in a third
+    if archive.is_relative() {
+        return Some(format!(
+            "LOVEMUDARN_ARCHIVE has to be a path from the root on: {name} is none"
+        ));
+    }
     let Ok(bytes) = fs::read(archive) else {
         return Some(format!(
             "there is no {name} that can be read: {again}; LOVEMUDARN_ARCHIVE names another folder for it"
@@ -62,7 +68,8 @@ fn fault(archive: &Path, target: &str, system: &str) -> Option<String> {
 
 fn main() {
     println!("cargo::rerun-if-env-changed=LOVEMUDARN_ARCHIVE");
-    let folder = match (env::var_os("LOVEMUDARN_ARCHIVE"), env::var_os("CARGO_MANIFEST_DIR")) {
+    let named = env::var_os("LOVEMUDARN_ARCHIVE").filter(|folder| !folder.is_empty());
+    let folder = match (named, env::var_os("CARGO_MANIFEST_DIR")) {
         (Some(folder), _) => PathBuf::from(folder),
         (None, Some(here)) => PathBuf::from(here).join("../../target/archive"),
         (None, None) => PathBuf::from("../../target/archive"),
