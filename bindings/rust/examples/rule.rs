@@ -1,11 +1,13 @@
 //! The key and the tokens of standard input, or why it has none.
 //!
 //!     cargo run --release --manifest-path bindings/rust/Cargo.toml --example rule <rule.rs
+//!
+//! The status is 0 where it is done, 1 where there is no key, 2 where standard input cannot be read.
 
 use std::io::{self, Read};
 use std::process::ExitCode;
 
-use lovemudarn::{FrontmatterAllowed, Lists, key, tokenize};
+use lovemudarn::{FrontmatterAllowed, Lists, Refusal, Token, key, needs_lists, tokenize};
 
 fn main() -> ExitCode {
     let mut text = Vec::new();
@@ -13,10 +15,21 @@ fn main() -> ExitCode {
         eprintln!("standard input cannot be read: {error}");
         return ExitCode::from(2);
     }
-    // Empty lists: identifiers are of ASCII. tools/unicode-lists prints those of a Unicode version.
-    let answers = key(&text, &Lists::EMPTY)
-        .and_then(|key| Ok((key, tokenize(&text, FrontmatterAllowed::No, &Lists::EMPTY)?)));
-    match answers {
+    // This example has no lists, and WITHOUT LISTS TWO RULES THAT DIFFER MAY HAVE ONE KEY: see
+    // `Lists::EMPTY`. So it keys a text only where no list matters. Whoever lends the lists of a Unicode
+    // version (tools/unicode-lists prints them) leaves this test out, and lends them below.
+    match needs_lists(&text) {
+        Ok(None) => {}
+        Ok(Some(at)) => {
+            eprintln!(
+                "not keyed: at byte {at} (counted from 0) a character past ASCII stands outside of comments \
+                 and strings, and this example has no lists to tell what it is; lend Unicode's lists"
+            );
+            return ExitCode::from(1);
+        }
+        Err(refusal) => return refused(refusal),
+    }
+    match answers(&text, &Lists::EMPTY) {
         Ok((key, tokens)) => {
             println!("key: {}", key.escape_ascii());
             for token in tokens {
@@ -24,9 +37,18 @@ fn main() -> ExitCode {
             }
             ExitCode::SUCCESS
         }
-        Err(refusal) => {
-            eprintln!("{refusal}");
-            ExitCode::from(1)
-        }
+        Err(refusal) => refused(refusal),
     }
+}
+
+fn answers(text: &[u8], lists: &Lists) -> Result<(Vec<u8>, Vec<Token>), Refusal> {
+    let key = key(text, lists)?;
+    let mut tokens = tokenize(text, FrontmatterAllowed::No, lists)?;
+    let list = tokens.by_ref().collect();
+    tokens.refusal().map_or(Ok((key, list)), Err)
+}
+
+fn refused(refusal: Refusal) -> ExitCode {
+    eprintln!("{refusal}");
+    ExitCode::from(1)
 }

@@ -145,7 +145,7 @@ pub enum DocStyle {
 }
 
 /// The kinds of literals. A suffix does not count: `1f32` is an `Int`.
-#[derive(Clone, Copy, Debug, PartialEq, Eq, Hash)]
+#[derive(Clone, Copy, Debug, PartialEq, Eq, PartialOrd, Ord, Hash)]
 pub enum LiteralKind {
     /// A whole number.
     Int {
@@ -204,7 +204,7 @@ pub enum LiteralKind {
 }
 
 /// The base of a number.
-#[derive(Clone, Copy, Debug, PartialEq, Eq, Hash)]
+#[derive(Clone, Copy, Debug, PartialEq, Eq, PartialOrd, Ord, Hash)]
 pub enum Base {
     /// Behind `0b`.
     Binary = 2,
@@ -218,7 +218,7 @@ pub enum Base {
 
 /// A string after hashes, as [`guarded_double_quoted_string`](crate::guarded_double_quoted_string)
 /// finds it.
-#[derive(Clone, Copy, Debug, PartialEq, Eq, Hash)]
+#[derive(Clone, Copy, Debug, PartialEq, Eq, PartialOrd, Ord, Hash)]
 pub struct GuardedStr {
     /// The hashes before it.
     pub n_hashes: u32,
@@ -229,7 +229,7 @@ pub struct GuardedStr {
 }
 
 /// What is wrong with a raw string, as [`validate_raw_str`](crate::validate_raw_str) tells.
-#[derive(Clone, Copy, Debug, PartialEq, Eq, Hash)]
+#[derive(Clone, Copy, Debug, PartialEq, Eq, PartialOrd, Ord, Hash)]
 pub enum RawStrError {
     /// Something other than a quote follows the hashes.
     InvalidStarter {

@@ -1,22 +1,25 @@
 //! A lexer for Rust source, and a key that stays the same where only blanks and plain comments
 //! change.
 //!
-//! The work is done by the archive of the proved library (`libexports.a`); this crate lends it
+//! The work is done by the archive of the proved library (`liblovemudarn.a`); this crate lends it
 //! slices and turns its numbers into Rust types. The types and calls have the names of rustc's own
 //! lexer, which the library carries over.
 //!
 //! ```
-//! use lovemudarn::{FrontmatterAllowed, Lists, TokenKind, key, tokenize};
+//! use lovemudarn::{FrontmatterAllowed, Lists, TokenKind, key, needs_lists, tokenize};
 //!
-//! let tokens = tokenize("a+1", FrontmatterAllowed::No, &Lists::EMPTY)?;
-//! assert_eq!(tokens.len(), 3);
-//! assert_eq!(tokens[1].kind, TokenKind::Plus);
+//! let mut tokens = tokenize("a+1", FrontmatterAllowed::No, &Lists::EMPTY)?;
+//! assert!(tokens.any(|token| token.kind == TokenKind::Plus));
 //!
-//! let old = key("let limit = 5; // ppm\n", &Lists::EMPTY)?;
-//! let new = key("let limit = 5;   /* ppm, measured twice */", &Lists::EMPTY)?;
-//! assert_eq!(old, new);
+//! let (old, new) = ("let limit = 5; // ppm\n", "let limit = 5;   /* ppm, measured twice */");
+//! // Only such texts are keyed with empty lists.
+//! assert_eq!((needs_lists(old)?, needs_lists(new)?), (None, None));
+//! assert_eq!(key(old, &Lists::EMPTY)?, key(new, &Lists::EMPTY)?);
 //! # Ok::<(), lovemudarn::Refusal>(())
 //! ```
+//!
+//! **Lend Unicode's lists, or ask [`needs_lists`]**: with [`Lists::EMPTY`] a text with names past ASCII
+//! may part into other tokens than rustc's, and two rules that differ may have one key.
 //!
 //! No call panics, whatever the text, the lists and the numbers are: what has no answer is refused by
 //! a [`Refusal`]. Texts are bytes (`&str`, `&[u8]`, ..), and a text that is not UTF-8 is refused.
@@ -24,40 +27,23 @@
 #![deny(missing_docs)]
 #![deny(unsafe_op_in_unsafe_fn)]
 
+mod cursor;
 mod kinds;
+mod lists;
 mod raw;
 mod refusal;
 
+pub use cursor::{Cursor, Tokens};
 pub use kinds::{
     Base, DocStyle, FrontmatterAllowed, GuardedStr, LiteralKind, RawStrError, Token, TokenKind,
 };
+pub use lists::{Lists, needs_lists};
 pub use refusal::{ListName, Refusal};
 
 // Every unsafe block below is one call of the archive, for the same reason: each pointer with its
 // count is one slice that is borrowed as long as the call runs, shared where it goes in as `*const` and
 // unique where it goes in as `*mut`, and a slice's pointer is never null. The archive reads and writes
 // inside these slices alone and keeps no pointer: that is proved of every function in it.
-
-/// The three lists of code points that are lent to the calls, in place of Unicode's tables.
-///
-/// A list is pairs of low and high code point, both included, as numbers in turn. The rules: at most
-/// 2,048 pairs; an even count of numbers; low ≤ high ≤ 0x10FFFF; low ≥ 0x80; each low above the
-/// previous high; no pair covers a surrogate, U+0085, U+200E, U+200F, U+2028 or U+2029. A list that
-/// breaks one is refused ([`Refusal::List`]). Below 0x80 the lists do not count.
-#[derive(Clone, Copy, Debug, Default, PartialEq, Eq)]
-pub struct Lists<'a> {
-    /// What may begin an identifier.
-    pub id_start: &'a [u32],
-    /// What may go on in one.
-    pub id_continue: &'a [u32],
-    /// What is emoji.
-    pub emoji: &'a [u32],
-}
-
-impl Lists<'static> {
-    /// No list: identifiers are of ASCII.
-    pub const EMPTY: Lists<'static> = Lists { id_start: &[], id_continue: &[], emoji: &[] };
-}
 
 /// A token, and how to go on.
 #[derive(Clone, Copy, Debug, PartialEq, Eq, Hash)]
@@ -70,30 +56,31 @@ pub struct Advanced {
     pub frontmatter: FrontmatterAllowed,
 }
 
-/// The numbers of a token in the buffer of [`tokenize_into`]: [`TokenKind::code`], the start of a
-/// suffix (0 but for literals), length, start.
+/// How many tokens were written, and how to go on.
+#[derive(Clone, Copy, Debug, PartialEq, Eq, Hash)]
+pub struct Run {
+    /// The tokens that were written.
+    pub tokens: usize,
+    /// The position past the last of them; the text's length where there are no more.
+    pub next: usize,
+    /// Whether the token there may be frontmatter.
+    pub frontmatter: FrontmatterAllowed,
+}
+
+/// The numbers of a token in the buffer of [`tokenize_into`] and [`tokens_from`]:
+/// [`TokenKind::code`], the start of a suffix (0 but for literals), length, start.
 pub type Record = [u32; 4];
 
-/// The tokens of a text in order, without [`TokenKind::Eof`].
+/// The tokens of a text in order, without [`TokenKind::Eof`], one after the other as they are asked
+/// for.
 ///
-/// Refused are 1, 3 and 2.
-pub fn tokenize(
-    text: impl AsRef<[u8]>,
+/// Refused are 1, 3 and 2, here and not later ([`Tokens::refusal`] has the one exception).
+pub fn tokenize<'a, T: AsRef<[u8]> + ?Sized>(
+    text: &'a T,
     frontmatter: FrontmatterAllowed,
-    lists: &Lists,
-) -> Result<Vec<Token>, Refusal> {
-    let text = text.as_ref();
-    // A guess, as sources are; where it is too low, the refusal tells how many tokens there are.
-    let mut records: Vec<Record> = vec![[0; 4]; text.len() / 3 + 16];
-    let count = match tokenize_into(text, frontmatter, lists, &mut records) {
-        Err(Refusal::Slots { needed }) => {
-            records = vec![[0; 4]; needed];
-            tokenize_into(text, frontmatter, lists, &mut records)?
-        }
-        other => other?,
-    };
-    records.truncate(count);
-    records.into_iter().map(token_of).collect()
+    lists: &Lists<'a>,
+) -> Result<Tokens<'a>, Refusal> {
+    Cursor::new(text, frontmatter, lists).map(Tokens::of)
 }
 
 /// Writes the tokens of a text into a buffer, a record each, and gives their number. Records past
@@ -127,8 +114,43 @@ pub fn tokenize_into(
     done(answer)
 }
 
-/// The token of a record that [`tokenize_into`] wrote; [`Refusal::Unknown`] for numbers that are no
-/// kind's.
+/// Writes as many tokens from a position on as the buffer has records for. Records past them keep their
+/// values. [`token_of`] reads a record; starts count from the beginning of the text.
+///
+/// Refused are 1, 3, 2, and 4 where the position is past the end or inside a character; then nothing
+/// is written. Each call checks the whole text: [`Cursor`] calls it a few times for a text.
+pub fn tokens_from(
+    text: impl AsRef<[u8]>,
+    lists: &Lists,
+    at: usize,
+    frontmatter: FrontmatterAllowed,
+    records: &mut [Record],
+) -> Result<Run, Refusal> {
+    let text = text.as_ref();
+    let slots = records.as_flattened_mut();
+    // SAFETY: slices borrowed for the call, `slots` uniquely; see the head of this file.
+    let answer = unsafe {
+        raw::lovemudarn_tokens_from(
+            text.as_ptr(),
+            text.len(),
+            lists.id_start.as_ptr(),
+            lists.id_start.len(),
+            lists.id_continue.as_ptr(),
+            lists.id_continue.len(),
+            lists.emoji.as_ptr(),
+            lists.emoji.len(),
+            at,
+            frontmatter == FrontmatterAllowed::Yes,
+            slots.as_mut_ptr(),
+            slots.len(),
+        )
+    };
+    refused(answer.number, answer.beside, answer.second)?;
+    Ok(Run { tokens: answer.tokens, next: answer.next, frontmatter: allowed(answer.on) })
+}
+
+/// The token of a record that [`tokenize_into`] or [`tokens_from`] wrote; [`Refusal::Unknown`] for
+/// numbers that are no kind's.
 pub fn token_of(record: Record) -> Result<Token, Refusal> {
     let [code, suffix_start, len, start] = record;
     // A place in a text that is in memory: it fits.
@@ -139,7 +161,7 @@ pub fn token_of(record: Record) -> Result<Token, Refusal> {
 /// The token at a position, with frontmatter allowed there or not.
 ///
 /// Refused are 1, 3, 2, and 4 where the position is past the end or inside a character. Each call
-/// checks the whole text: for all tokens of a text use [`tokenize`].
+/// checks the whole text: to go through one use [`tokenize`] or a [`Cursor`].
 pub fn advance_token(
     text: impl AsRef<[u8]>,
     lists: &Lists,
@@ -167,7 +189,7 @@ pub fn advance_token(
     Ok(Advanced {
         token: Token { kind, len: answer.len, start: answer.start },
         next: answer.next,
-        frontmatter: if answer.on { FrontmatterAllowed::Yes } else { FrontmatterAllowed::No },
+        frontmatter: allowed(answer.on),
     })
 }
 
@@ -175,7 +197,11 @@ pub fn advance_token(
 /// nothing; each longest run of these becomes one newline. Frontmatter is off.
 ///
 /// Two texts have the same key exactly if their other tokens are the same, in the same order and
-/// separated at the same places. Refused are 1, 3, 2, and 6 where a literal or a block comment is broken.
+/// separated at the same places: the tokens that these lists give. **With [`Lists::EMPTY`] they may be
+/// others than rustc's, and a change may be missed: key a text so only where [`needs_lists`] finds no place
+/// in it.** Keys of different lists are not comparable.
+///
+/// Refused are 1, 3, 2, and 6 where a literal or a block comment is broken.
 pub fn key(text: impl AsRef<[u8]>, lists: &Lists) -> Result<Vec<u8>, Refusal> {
     let text = text.as_ref();
     // A key is never longer than its text.
@@ -243,11 +269,12 @@ pub fn strip_shebang(text: impl AsRef<[u8]>) -> Result<Option<usize>, Refusal> {
 /// Refused are 1, 2, and 8 where the text does not begin with such a prefix.
 pub fn validate_raw_str(
     text: impl AsRef<[u8]>,
-    prefix_len: usize,
+    prefix_len: u32,
 ) -> Result<Result<(), RawStrError>, Refusal> {
     let text = text.as_ref();
+    let prefix = prefix_len as usize;
     // SAFETY: a slice borrowed for the call; see the head of this file.
-    let answer = unsafe { raw::lovemudarn_validate_raw_str(text.as_ptr(), text.len(), prefix_len) };
+    let answer = unsafe { raw::lovemudarn_validate_raw_str(text.as_ptr(), text.len(), prefix) };
     refused(answer.number, answer.beside, answer.second)?;
     let unknown = Refusal::Unknown { number: 0, beside: answer.beside, second: answer.second };
     let error = match answer.check {
@@ -358,6 +385,10 @@ fn done(answer: raw::Answer) -> Result<usize, Refusal> {
 
 fn yes_or_no(answer: raw::Answer) -> Result<bool, Refusal> {
     done(answer).map(|beside| beside != 0)
+}
+
+fn allowed(on: bool) -> FrontmatterAllowed {
+    if on { FrontmatterAllowed::Yes } else { FrontmatterAllowed::No }
 }
 
 fn kind_of(code: u32, suffix_start: u32) -> Result<TokenKind, Refusal> {

@@ -26,6 +26,17 @@ pub struct TokenAnswer {
 
 #[repr(C)]
 #[derive(Clone, Copy)]
+pub struct RunAnswer {
+    pub number: u32,
+    pub beside: usize,
+    pub second: usize,
+    pub tokens: usize,
+    pub next: usize,
+    pub on: bool,
+}
+
+#[repr(C)]
+#[derive(Clone, Copy)]
 pub struct RawStrAnswer {
     pub number: u32,
     pub beside: usize,
@@ -78,6 +89,21 @@ unsafe extern "C" {
         slots: *mut u32,
         slots_len: usize,
     ) -> Answer;
+
+    pub fn lovemudarn_tokens_from(
+        text: *const u8,
+        text_len: usize,
+        starts: *const u32,
+        starts_len: usize,
+        continues: *const u32,
+        continues_len: usize,
+        emoji: *const u32,
+        emoji_len: usize,
+        at: usize,
+        on: bool,
+        slots: *mut u32,
+        slots_len: usize,
+    ) -> RunAnswer;
 
     pub fn lovemudarn_key(
         text: *const u8,
