@@ -10,11 +10,12 @@ mod lists;
 
 use std::env;
 use std::ops::RangeInclusive;
+use std::sync::{Mutex, MutexGuard, PoisonError};
 
 use lists::pairs;
 use lovemudarn::{
-    Base, DocStyle, FrontmatterAllowed, GuardedStr, Lists, LiteralKind, RawStrError, Refusal,
-    Token, TokenKind,
+    Base, Cursor, DocStyle, FrontmatterAllowed, GuardedStr, Lists, LiteralKind, RawStrError,
+    Refusal, Token, TokenKind,
 };
 
 // ---- what rustc's lexer says, in the types of this crate ----
@@ -112,6 +113,14 @@ fn allowed(frontmatter: FrontmatterAllowed) -> rustc_lexer::FrontmatterAllowed {
     match frontmatter {
         FrontmatterAllowed::Yes => rustc_lexer::FrontmatterAllowed::Yes,
         FrontmatterAllowed::No => rustc_lexer::FrontmatterAllowed::No,
+    }
+}
+
+fn guarded(found: rustc_lexer::GuardedStr) -> GuardedStr {
+    GuardedStr {
+        n_hashes: found.n_hashes,
+        terminated: found.terminated,
+        token_len: found.token_len,
     }
 }
 
@@ -225,7 +234,7 @@ fn any_text(chance: &mut Chance) -> String {
 struct Owned([Vec<u32>; 3]);
 
 impl Owned {
-    /// The same lists for both sides.
+    /// The same lists for both sides, in a test that has its [`turn`].
     fn lend(&self) -> Lists<'_> {
         let theirs = |list: &[u32]| list.chunks(2).map(|pair| (pair[0], pair[1])).collect();
         unicode_ident::lend_start(theirs(&self.0[0]));
@@ -233,6 +242,12 @@ impl Owned {
         unicode_properties::lend_emoji(theirs(&self.0[2]));
         Lists { id_start: &self.0[0], id_continue: &self.0[1], emoji: &self.0[2] }
     }
+}
+
+/// The lists of rustc's lexer are shared by all threads: one test at a time lends them.
+fn turn() -> MutexGuard<'static, ()> {
+    static TURN: Mutex<()> = Mutex::new(());
+    TURN.lock().unwrap_or_else(PoisonError::into_inner)
 }
 
 fn all_lists() -> Vec<Owned> {
@@ -257,6 +272,7 @@ fn all_lists() -> Vec<Owned> {
 struct Count {
     texts: usize,
     tokens: usize,
+    strings: usize,
     keys: usize,
     broken: usize,
     ill_formed: usize,
@@ -266,8 +282,8 @@ fn compare(text: &str, lists: &Lists, count: &mut Count) {
     count.texts += 1;
     for frontmatter in [FrontmatterAllowed::No, FrontmatterAllowed::Yes] {
         let theirs = their_tokens(text, frontmatter);
-        let ours = lovemudarn::tokenize(text, frontmatter, lists);
-        assert_eq!(ours.as_ref(), Ok(&theirs), "{text:?} {frontmatter:?}");
+        let ours: Vec<Token> = lovemudarn::tokenize(text, frontmatter, lists).unwrap().collect();
+        assert_eq!(ours, theirs, "{text:?} {frontmatter:?}");
         count.tokens += theirs.len();
         // One by one, with the flag that their cursor has.
         let mut cursor = rustc_lexer::Cursor::new(text, allowed(frontmatter));
@@ -305,11 +321,7 @@ fn compare(text: &str, lists: &Lists, count: &mut Count) {
     for (at, _) in text.char_indices().chain([(text.len(), ' ')]) {
         let rest = &text[at..];
         let mut cursor = rustc_lexer::Cursor::new(rest, rustc_lexer::FrontmatterAllowed::No);
-        let found = cursor.guarded_double_quoted_string().map(|found| GuardedStr {
-            n_hashes: found.n_hashes,
-            terminated: found.terminated,
-            token_len: found.token_len,
-        });
+        let found = cursor.guarded_double_quoted_string().map(guarded);
         let next = text.len() - cursor.as_str().len();
         let ours = lovemudarn::guarded_double_quoted_string(text, lists, at);
         assert_eq!(ours, Ok((found, next)), "{text:?} {at}");
@@ -324,6 +336,42 @@ fn compare(text: &str, lists: &Lists, count: &mut Count) {
                 assert_eq!(ours, Err(Refusal::Prefix), "{rest:?} {prefix}");
             }
         }
+    }
+}
+
+/// Both cursors side by side, over tokens and strings after hashes as chance wants it.
+fn compare_cursors(text: &str, lists: &Lists, chance: &mut Chance, count: &mut Count) {
+    for frontmatter in [FrontmatterAllowed::No, FrontmatterAllowed::Yes] {
+        let mut theirs = rustc_lexer::Cursor::new(text, allowed(frontmatter));
+        let mut ours = Cursor::new(text, frontmatter, lists).unwrap();
+        let often = 1 + chance.below(4);
+        // Where the next token starts, if lengths are added up.
+        let mut start = 0;
+        loop {
+            assert_eq!(ours.as_str(), theirs.as_str(), "{text:?}");
+            assert_eq!(ours.position(), text.len() - theirs.as_str().len());
+            assert_eq!((ours.first(), ours.third()), (theirs.first(), theirs.third()));
+            let flag = rustc_lexer::allows_frontmatter(&theirs);
+            assert_eq!(ours.frontmatter() == FrontmatterAllowed::Yes, flag, "{text:?}");
+            let string = matches!(theirs.first(), '#' | '"') || chance.below(20) == 0;
+            if string && chance.below(often) == 0 {
+                let found = theirs.guarded_double_quoted_string().map(guarded);
+                assert_eq!(ours.guarded_double_quoted_string(), found, "{text:?}");
+                start += found.map_or(0, |found| found.token_len as usize);
+                count.strings += usize::from(found.is_some());
+            } else {
+                let token = theirs.advance_token();
+                let (token, ours) = ((kind(token.kind), token.len), ours.advance_token());
+                assert_eq!((ours.kind, ours.len), token, "{text:?}");
+                if ours.kind == TokenKind::Eof {
+                    assert_eq!(ours.start, text.len());
+                    break;
+                }
+                assert_eq!(ours.start, start, "{text:?}");
+                start += ours.len as usize;
+            }
+        }
+        assert_eq!(ours.refusal(), None);
     }
 }
 
@@ -356,11 +404,8 @@ fn compare_damaged(text: &str, chance: &mut Chance, lists: &Lists, count: &mut C
         Err(error) => {
             count.ill_formed += 1;
             let refusal = Refusal::NotUtf8 { at: error.valid_up_to() };
-            assert_eq!(
-                lovemudarn::tokenize(&bytes, FrontmatterAllowed::Yes, lists),
-                Err(refusal),
-                "{bytes:?}"
-            );
+            let tokens = lovemudarn::tokenize(&bytes, FrontmatterAllowed::Yes, lists);
+            assert_eq!(tokens.map(Iterator::count), Err(refusal), "{bytes:?}");
             assert_eq!(lovemudarn::key(&bytes, lists), Err(refusal), "{bytes:?}");
             assert_eq!(lovemudarn::strip_shebang(&bytes), Err(refusal), "{bytes:?}");
             assert_eq!(lovemudarn::is_ident(&bytes, lists), Err(refusal), "{bytes:?}");
@@ -372,9 +417,9 @@ fn number(name: &str, otherwise: u64) -> u64 {
     env::var(name).ok().and_then(|word| word.parse().ok()).unwrap_or(otherwise)
 }
 
-// One test: the lists of rustc's lexer are shared by all threads.
 #[test]
 fn the_same_as_rustcs_lexer() {
+    let _turn = turn();
     let texts = number("LOVEMUDARN_TEXTS", 40_000) as usize;
     let mut chance = Chance(number("LOVEMUDARN_SEED", 1));
     let all = all_lists();
@@ -399,6 +444,7 @@ fn the_same_as_rustcs_lexer() {
         for _ in 0..texts / all.len() {
             let text = any_text(&mut chance);
             compare(&text, &lists, &mut count);
+            compare_cursors(&text, &lists, &mut chance, &mut count);
             if chance.below(4) == 0 {
                 compare_damaged(&text, &mut chance, &lists, &mut count);
             }
@@ -408,9 +454,221 @@ fn the_same_as_rustcs_lexer() {
             let text: String = (0..200).map(|_| chance.pick(PIECES)).collect();
             compare(&text, &lists, &mut count);
         }
+        // Longer than several blocks of the cursor.
+        for _ in 0..40 {
+            let pieces = 100 + chance.below(3000);
+            let text: String = (0..pieces).map(|_| chance.pick(PIECES)).collect();
+            compare_cursors(&text, &lists, &mut chance, &mut count);
+        }
+        // As many tokens as the blocks have, and some more or less.
+        for tokens in (250..262).chain(506..518).chain(2040..2064) {
+            for piece in ["x ", "; ", "é ", "1#"] {
+                let text: String = piece.chars().cycle().take(tokens).collect();
+                compare_cursors(&text, &lists, &mut chance, &mut count);
+            }
+        }
     }
     println!(
-        "{} texts, {} tokens, {} keys, {} broken, {} ill-formed: all agree",
-        count.texts, count.tokens, count.keys, count.broken, count.ill_formed
+        "{} texts, {} tokens, {} strings after hashes, {} keys, {} broken, {} ill-formed: all agree",
+        count.texts, count.tokens, count.strings, count.keys, count.broken, count.ill_formed
     );
+    for seen in [count.strings, count.keys, count.broken, count.ill_formed] {
+        assert!(seen * 50 > count.texts, "too few to tell");
+    }
+}
+
+#[test]
+fn the_same_orders() {
+    use rustc_lexer::{Base as TheirBase, LiteralKind as Theirs};
+    let bases = [TheirBase::Binary, TheirBase::Octal, TheirBase::Decimal, TheirBase::Hexadecimal];
+    let mut all = Vec::new();
+    for flag in [false, true] {
+        for base in bases {
+            all.push(Theirs::Int { base, empty_int: flag });
+            all.push(Theirs::Float { base, empty_exponent: flag });
+        }
+        all.push(Theirs::Char { terminated: flag });
+        all.push(Theirs::Byte { terminated: flag });
+        all.push(Theirs::Str { terminated: flag });
+        all.push(Theirs::ByteStr { terminated: flag });
+        all.push(Theirs::CStr { terminated: flag });
+    }
+    for n_hashes in [None, Some(0), Some(1), Some(255)] {
+        all.push(Theirs::RawStr { n_hashes });
+        all.push(Theirs::RawByteStr { n_hashes });
+        all.push(Theirs::RawCStr { n_hashes });
+    }
+    for &one in &all {
+        for &two in &all {
+            assert_eq!(literal(one).cmp(&literal(two)), one.cmp(&two), "{one:?} {two:?}");
+        }
+    }
+    for one in bases {
+        assert_eq!(base(one) as u32, one as u32);
+        for two in bases {
+            assert_eq!(base(one).cmp(&base(two)), one.cmp(&two));
+        }
+    }
+    let mut chance = Chance(1);
+    let mut number = || chance.below(3) as u32;
+    let errors: Vec<_> = (0..60)
+        .map(|_| {
+            use rustc_lexer::RawStrError as Theirs;
+            let (expected, found) = (number(), number());
+            let possible_terminator_offset = number().checked_sub(1);
+            match number() {
+                0 => Theirs::InvalidStarter { bad_char: if found == 0 { 'a' } else { 'b' } },
+                1 => Theirs::TooManyDelimiters { found },
+                _ => Theirs::NoTerminator { expected, found, possible_terminator_offset },
+            }
+        })
+        .collect();
+    let strings: Vec<_> = (0..60)
+        .map(|_| rustc_lexer::GuardedStr {
+            n_hashes: number(),
+            terminated: number() == 0,
+            token_len: number(),
+        })
+        .collect();
+    for one in 0..60 {
+        for two in 0..60 {
+            let theirs = errors[one].cmp(&errors[two]);
+            assert_eq!(raw_error(errors[one]).cmp(&raw_error(errors[two])), theirs);
+            let theirs = strings[one].cmp(&strings[two]);
+            assert_eq!(guarded(strings[one]).cmp(&guarded(strings[two])), theirs);
+        }
+    }
+}
+
+// ---- where lists may matter ----
+
+/// What rustc's lexer says of a text with the lists that are lent.
+#[derive(PartialEq, Debug)]
+struct Said {
+    tokens: Vec<Token>,
+    key: Result<Vec<u8>, Refusal>,
+}
+
+fn said(text: &str) -> Said {
+    Said { tokens: their_tokens(text, FrontmatterAllowed::No), key: their_key(text) }
+}
+
+#[derive(Default, Debug)]
+struct Needs {
+    /// Texts with a character past ASCII that need no lists, and how many of them have a key.
+    free: usize,
+    free_keys: usize,
+    /// Texts that may need them; those whose tokens differ, and whose keys differ.
+    bound: usize,
+    tokens_differ: usize,
+    keys_differ: usize,
+}
+
+/// A text that needs no lists is the same with any; the others are counted by what the lists do.
+fn compare_needs(texts: &[String], all: &[Owned]) -> Needs {
+    Owned([vec![], vec![], vec![]]).lend();
+    let with_none: Vec<(Option<usize>, Said)> =
+        texts.iter().map(|text| (lovemudarn::needs_lists(text).unwrap(), said(text))).collect();
+    let mut needs = Needs::default();
+    let mut differs = vec![(false, false); texts.len()];
+    for owned in all {
+        let lists = owned.lend();
+        for ((text, (place, none)), differs) in texts.iter().zip(&with_none).zip(&mut differs) {
+            let some = said(text);
+            match *place {
+                None => {
+                    assert_eq!(some, *none, "{text:?}");
+                    assert_eq!(lovemudarn::key(text, &lists), none.key, "{text:?}");
+                }
+                Some(place) => {
+                    assert!(!text[place..].starts_with(|c: char| c.is_ascii()), "{text:?}");
+                    differs.0 |= some.tokens != none.tokens;
+                    differs.1 |= some.key != none.key;
+                }
+            }
+        }
+    }
+    for ((text, (place, none)), (tokens, keys)) in texts.iter().zip(&with_none).zip(differs) {
+        if place.is_some() {
+            needs.bound += 1;
+            needs.tokens_differ += usize::from(tokens);
+            needs.keys_differ += usize::from(keys);
+        } else if !text.is_ascii() {
+            needs.free += 1;
+            needs.free_keys += usize::from(none.key.is_ok());
+        }
+    }
+    needs
+}
+
+/// The characters at which tokens turn, and some that lists are asked about.
+#[rustfmt::skip]
+const TURNS: &[&str] = &[
+    "'", "\"", "#", "r", "k", "b", "a", "1", ".", "e", "/", "*", "\\", "\n", " ", "é", "😀", "\u{85}",
+];
+
+/// Every text of at most so many of them.
+fn short_texts(most: usize) -> Vec<String> {
+    let mut all = vec![String::new()];
+    let mut from = 0;
+    for _ in 0..most {
+        let until = all.len();
+        for at in from..until {
+            for piece in TURNS {
+                all.push(format!("{}{piece}", all[at]));
+            }
+        }
+        from = until;
+    }
+    all
+}
+
+#[test]
+fn a_text_that_needs_no_lists_is_the_same_with_any() {
+    let _turn = turn();
+    let every = || pairs(|_| true);
+    let simple = [
+        Owned([every(), every(), every()]),
+        Owned([every(), every(), vec![]]),
+        Owned([every(), vec![], vec![]]),
+        Owned([vec![], every(), vec![]]),
+        Owned([vec![], vec![], every()]),
+    ];
+    let short = compare_needs(&short_texts(4), &simple);
+    println!("short texts: {short:?}");
+    let mut chance = Chance(number("LOVEMUDARN_SEED", 1));
+    let texts: Vec<String> = (0..number("LOVEMUDARN_TEXTS", 40_000))
+        .map(|_| match chance.below(3) {
+            0 => any_text(&mut chance),
+            1 => (0..5 + chance.below(8)).map(|_| chance.pick(TURNS)).collect(),
+            _ => {
+                // Characters past ASCII mostly where they do not matter.
+                let whole = [
+                    "'é'",
+                    "\"é\"",
+                    "// é\n",
+                    "/*é*/",
+                    "r\"😀\"",
+                    "b'é'",
+                    "\"é",
+                    " ",
+                    "a",
+                    "'",
+                    "1",
+                ];
+                (0..1 + chance.below(8)).map(|_| chance.pick(&whole)).collect()
+            }
+        })
+        .collect();
+    let mut all = all_lists();
+    all.extend(simple);
+    let random = compare_needs(&texts, &all);
+    println!("random texts: {random:?}");
+    for needs in [short, random] {
+        let all = needs.free + needs.bound;
+        assert!(needs.free * 5 > all && needs.free_keys * 10 > all, "{needs:?}");
+        assert!(needs.bound * 5 > all && needs.keys_differ * 100 > all, "{needs:?}");
+        // It is seldom asked for in vain.
+        assert!(needs.tokens_differ * 10 > needs.bound * 9, "{needs:?}");
+    }
 }

@@ -1,12 +1,23 @@
 //! Every refusal, its place, the order of the checks, and that a refusal writes nothing.
 
 use lovemudarn::{
-    FrontmatterAllowed::No, ListName, Lists, Refusal, advance_token, check,
+    Cursor, FrontmatterAllowed::No, ListName, Lists, Refusal, Run, advance_token, check,
     guarded_double_quoted_string, is_emoji_char, is_id_continue, is_id_start, is_ident, key,
-    key_into, strip_shebang, token_of, tokenize, tokenize_into, validate_raw_str,
+    key_into, needs_lists, strip_shebang, token_of, tokenize, tokenize_into, tokens_from,
+    validate_raw_str,
 };
 
 const NONE: &Lists = &Lists::EMPTY;
+
+/// That the calls on all tokens refuse a text so, and write nothing.
+fn no_tokens(text: &[u8], lists: &Lists, refusal: Refusal) {
+    assert_eq!(tokenize(text, No, lists).map(Iterator::count), Err(refusal));
+    assert_eq!(Cursor::new(text, No, lists).map(|cursor| cursor.position()), Err(refusal));
+    let mut records = [[7; 4]; 3];
+    assert_eq!(tokenize_into(text, No, lists, &mut records), Err(refusal));
+    assert_eq!(tokens_from(text, lists, 99, No, &mut records), Err(refusal));
+    assert_eq!(records, [[7; 4]; 3]);
+}
 
 #[test]
 fn not_utf8() {
@@ -22,8 +33,9 @@ fn not_utf8() {
         let refusal = Refusal::NotUtf8 { at };
         assert_eq!((refusal.number(), refusal.place()), (2, Some(at)));
         assert_eq!(check(text, NONE), Err(refusal));
-        assert_eq!(tokenize(text, No, NONE), Err(refusal));
+        no_tokens(text, NONE, refusal);
         assert_eq!(key(text, NONE), Err(refusal));
+        assert_eq!(needs_lists(text), Err(refusal));
         assert_eq!(advance_token(text, NONE, 99, No), Err(refusal));
         assert_eq!(guarded_double_quoted_string(text, NONE, 99), Err(refusal));
         assert_eq!(is_ident(text, NONE), Err(refusal));
@@ -58,7 +70,7 @@ fn lists() {
             // Lists come before the text's bytes.
             for text in [&b"a"[..], b"\xff", b""] {
                 assert_eq!(check(text, &lists), Err(refused));
-                assert_eq!(tokenize(text, No, &lists), Err(refused));
+                no_tokens(text, &lists, refused);
                 assert_eq!(key(text, &lists), Err(refused));
                 assert_eq!(advance_token(text, &lists, 9, No), Err(refused));
             }
@@ -92,12 +104,15 @@ fn positions() {
     for at in (0..20).chain([usize::MAX]) {
         let one = advance_token(text, NONE, at, No);
         let guarded = guarded_double_quoted_string(text, NONE, at);
+        let mut records = [[7; 4]; 3];
+        let run = tokens_from(text, NONE, at, No, &mut records);
         if text.is_char_boundary(at) {
-            assert!(one.is_ok() && guarded == Ok((None, at)));
+            assert!(one.is_ok() && run.is_ok() && guarded == Ok((None, at)));
         } else {
             let refusal = Refusal::Position { at };
             assert_eq!((refusal.number(), refusal.place()), (4, Some(at)));
-            assert_eq!((one, guarded), (Err(refusal), Err(refusal)));
+            assert_eq!((one, run, guarded), (Err(refusal), Err(refusal), Err(refusal)));
+            assert_eq!(records, [[7; 4]; 3]);
         }
     }
 }
@@ -116,12 +131,34 @@ fn too_few_slots_write_nothing() {
     assert_eq!(tokenize_into(text, No, NONE, &mut records[..8]), Ok(6));
     assert_eq!(records[6..], [[7; 4]; 3]);
     let tokens: Vec<_> = records[..6].iter().map(|&record| token_of(record).unwrap()).collect();
-    assert_eq!(tokens, tokenize(text, No, NONE).unwrap());
+    assert_eq!(tokens, tokenize(text, No, NONE).unwrap().collect::<Vec<_>>());
     assert_eq!(
         tokenize_into("\u{ff}\u{85}'", No, NONE, &mut []),
         Err(Refusal::Slots { needed: 3 })
     );
     assert_eq!(tokenize_into("", No, NONE, &mut []), Ok(0));
+}
+
+#[test]
+fn a_run_goes_on_where_it_ended() {
+    let text = "a + é1;";
+    let mut all = [[7; 4]; 9];
+    assert_eq!(tokenize_into(text, No, NONE, &mut all), Ok(7));
+    let (mut at, mut count) = (0, 0);
+    while at < text.len() {
+        let mut records = [[7; 4]; 4];
+        let run = tokens_from(text, NONE, at, No, &mut records[..3]).unwrap();
+        assert_eq!(run.tokens, 3.min(7 - count));
+        assert_eq!(records[..run.tokens], all[count..count + run.tokens]);
+        // Past the answer the records keep their values.
+        assert!(records[run.tokens..].iter().all(|&record| record == [7; 4]));
+        (at, count) = (run.next, count + run.tokens);
+    }
+    assert_eq!(count, 7);
+    let end = Run { tokens: 0, next: text.len(), frontmatter: No };
+    assert_eq!(tokens_from(text, NONE, text.len(), No, &mut all), Ok(end));
+    let none = Run { tokens: 0, next: 2, frontmatter: No };
+    assert_eq!(tokens_from(text, NONE, 2, No, &mut []), Ok(none));
 }
 
 #[test]
@@ -172,7 +209,7 @@ fn prefixes() {
         ("r\"\"", 2),
         ("br\"\"", 1),
         ("dr\"\"", 2),
-        ("r", usize::MAX),
+        ("r", u32::MAX),
     ] {
         assert_eq!(validate_raw_str(text, prefix), Err(Refusal::Prefix), "{text:?} {prefix}");
     }

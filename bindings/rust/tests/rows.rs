@@ -1,7 +1,7 @@
 //! The rows and examples of the scope paper.
 
 use lovemudarn::{
-    Base, DocStyle, FrontmatterAllowed, GuardedStr, Lists, LiteralKind, RawStrError, Token,
+    Base, Cursor, DocStyle, FrontmatterAllowed, GuardedStr, Lists, LiteralKind, RawStrError, Token,
     TokenKind, advance_token, guarded_double_quoted_string, is_emoji_char,
     is_horizontal_whitespace, is_id_continue, is_id_start, is_ident, is_whitespace, key,
     strip_shebang, tokenize, validate_raw_str,
@@ -11,12 +11,13 @@ use FrontmatterAllowed::{No, Yes};
 
 const NONE: &Lists = &Lists::EMPTY;
 
-/// The first token, by both calls.
+/// The first token, by all calls.
 fn first(text: &str, frontmatter: FrontmatterAllowed) -> Token {
     let one = advance_token(text, NONE, 0, frontmatter).unwrap();
-    let all = tokenize(text, frontmatter, NONE).unwrap();
-    assert_eq!(one.token, all[0], "{text:?}");
-    assert_eq!(one.next, one.token.len as usize);
+    assert_eq!(tokenize(text, frontmatter, NONE).unwrap().next(), Some(one.token), "{text:?}");
+    let mut cursor = Cursor::new(text, frontmatter, NONE).unwrap();
+    assert_eq!(cursor.advance_token(), one.token, "{text:?}");
+    assert_eq!((one.next, cursor.position()), (one.token.len as usize, one.next));
     one.token
 }
 

@@ -1,0 +1,61 @@
+//! The example that people copy, run as a program. `cargo test` builds it; to run this file alone, build
+//! it first: `cargo build --release --example rule`.
+
+use std::env;
+use std::io::Write;
+use std::path::PathBuf;
+use std::process::{Command, Output, Stdio};
+
+/// Beside the folder of this test.
+fn program() -> PathBuf {
+    let test = env::current_exe().unwrap();
+    let folder = test.ancestors().nth(2).unwrap();
+    folder.join("examples/rule")
+}
+
+fn run(text: &str) -> (Option<i32>, String, String) {
+    let program = program();
+    assert!(program.is_file(), "no {}: build the example `rule` first", program.display());
+    let mut child = Command::new(program)
+        .stdin(Stdio::piped())
+        .stdout(Stdio::piped())
+        .stderr(Stdio::piped())
+        .spawn()
+        .unwrap();
+    child.stdin.take().unwrap().write_all(text.as_bytes()).unwrap();
+    let Output { status, stdout, stderr } = child.wait_with_output().unwrap();
+    let words = |bytes| String::from_utf8(bytes).unwrap();
+    (status.code(), words(stdout), words(stderr))
+}
+
+#[test]
+fn a_text_is_keyed() {
+    let (status, out, said) = run("/* a */x = 1; // é\n");
+    assert_eq!((status, said.as_str()), (Some(0), ""));
+    let mut lines = out.lines();
+    assert_eq!(lines.next(), Some("key: \\nx\\n=\\n1;\\n"));
+    assert_eq!(lines.clone().count(), 10);
+    assert_eq!(lines.nth(1), Some("Ident, length 1, start 7"));
+}
+
+/// With empty lists these two would have one key.
+#[test]
+fn a_text_that_needs_lists_is_not() {
+    for text in ["f!('é \"' // limit 5\");", "f!('é \"' // limit 9\");"] {
+        let (status, out, said) = run(text);
+        assert_eq!((status, out.as_str()), (Some(1), ""));
+        assert!(said.starts_with("not keyed: at byte 4 "), "{said}");
+        assert!(said.contains("lend Unicode's lists"), "{said}");
+    }
+    // Of ASCII, it has a key that tells them apart.
+    let (five, nine) = (run("f!('e \"' // limit 5\");"), run("f!('e \"' // limit 9\");"));
+    assert_eq!((five.0, nine.0), (Some(0), Some(0)));
+    assert_ne!(five.1.lines().next(), nine.1.lines().next());
+}
+
+#[test]
+fn a_refusal_is_explained() {
+    let (status, out, said) = run("let unit = \"mg;\n");
+    assert_eq!((status, out.as_str()), (Some(1), ""));
+    assert!(said.starts_with("refusal 6: ") && said.contains("begins at byte 11 "), "{said}");
+}

@@ -1,0 +1,71 @@
+//! Where a text needs lists. tests/beside_000.rs compares what this promises with rustc's lexer.
+
+use lovemudarn::{Lists, Refusal, key, needs_lists};
+
+#[test]
+fn places() {
+    for (text, place) in [
+        // The accident: a lifetime that is none, whose quote pairs with one in a string.
+        ("f!('é \"' // limit 5\");", Some(4)),
+        // Names, alone, in the middle and at the ends of others, before what they may be a prefix of.
+        ("é", Some(0)),
+        ("a é", Some(2)),
+        ("naïve", Some(2)),
+        ("1é", Some(1)),
+        ("1.é", Some(2)),
+        ("\"a\"é", Some(3)),
+        ("'a'é", Some(3)),
+        ("éa#", Some(0)),
+        ("aé\"\"", Some(1)),
+        ("k#é", Some(2)),
+        ("'r#é", Some(3)),
+        ("'aé", Some(2)),
+        ("'aé'", Some(2)),
+        ("'0é", Some(2)),
+        ("r#é", Some(2)),
+        ("😀", Some(0)),
+        ("a😀", Some(1)),
+        ("a\u{200d}", Some(1)),
+        // After a quote.
+        ("'é", Some(1)),
+        ("'éa", Some(1)),
+        ("'éa'", Some(1)),
+        ("'é b'", Some(1)),
+        ("'日\n", Some(1)),
+        ("'😀😀'", Some(1)),
+        ("x 'é' 'é", Some(8)),
+        // Not where a list is not asked.
+        ("", None),
+        ("a 'a' \"a\" r#a 1.5 // a", None),
+        ("'é' '日' '😀'", None),
+        ("'é'u8", None),
+        ("'\\é'", None),
+        ("b'éé' 'é'", None),
+        ("\"é\" r\"é\" r#\"é\"# br\"é\" c\"é\"", None),
+        ("// é\n/* é */ /** é */", None),
+        ("a\u{85}b \u{2028}", None),
+        ("---é\n---", Some(3)),
+        // Broken with any lists.
+        ("r\"é", None),
+        ("r##é", None),
+        ("br#é", None),
+        ("\"é", None),
+    ] {
+        assert_eq!(needs_lists(text), Ok(place), "{text:?}");
+    }
+    assert_eq!(needs_lists(b"a\xff"), Err(Refusal::NotUtf8 { at: 1 }));
+    // Past the first block of tokens.
+    let text = format!("{}é", ";".repeat(3000));
+    assert_eq!(needs_lists(&text), Ok(Some(3000)));
+}
+
+/// The texts of the accident: one key with empty lists, two with real ones.
+#[test]
+fn why_it_is_asked() {
+    let (five, nine) = ("f!('é \"' // limit 5\");", "f!('é \"' // limit 9\");");
+    assert_eq!(key(five, &Lists::EMPTY), key(nine, &Lists::EMPTY));
+    assert!(key(five, &Lists::EMPTY).is_ok());
+    let lists = Lists { id_start: &[0xE9, 0xE9], id_continue: &[0xE9, 0xE9], emoji: &[] };
+    assert_eq!(key(five, &lists).unwrap(), "f!('é\n\"' // limit 5\");".as_bytes());
+    assert_eq!(key(nine, &lists).unwrap(), "f!('é\n\"' // limit 9\");".as_bytes());
+}
