@@ -28,22 +28,61 @@ static int explain(struct lovemudarn_answer a) {
     return 1;
 }
 
+/* The place in token i, as the empty lists give it, of a character that only lists can judge, or n where there is none: a character past ASCII that is an unknown
+ * token, or that stands after a single quote and is not alone before the next, or after r#. */
+static size_t judged(size_t i, size_t n) {
+    uint32_t code = slots[4 * i], suffix_start = slots[4 * i + 1], len = slots[4 * i + 2];
+    size_t start = slots[4 * i + 3], at = n;
+    if (LOVEMUDARN_KIND_OF(code) == LOVEMUDARN_KIND_UNKNOWN) {
+        at = start;
+    } else if (LOVEMUDARN_KIND_OF(code) == LOVEMUDARN_KIND_LITERAL && len > 1) {
+        uint32_t literal = LOVEMUDARN_LITERAL_OF(code);
+        bool whole = LOVEMUDARN_LITERAL_DETAIL_OF(code) != 0; /* closed, and of a raw string: with a count of hashes */
+        uint8_t second = text[start + 1];
+        uint32_t bytes = second < 0xE0 ? 2 : second < 0xF0 ? 3 : 4; /* of the character, if it is past ASCII */
+        if (literal == LOVEMUDARN_LITERAL_CHAR && !(whole && suffix_start == 2 + bytes))
+            at = start + 1;
+        else if (literal == LOVEMUDARN_LITERAL_RAW_STR && !whole && second == '#' && len > 2)
+            at = start + 2;
+    }
+    return at < n && text[at] >= 0x80 ? at : n;
+}
+
+/* The first place where lists may matter, or n. WITHOUT LISTS TWO RULES THAT DIFFER MAY HAVE ONE KEY: the lifetime in f!('é "' // limit 5"); is none then, its quote
+ * pairs with the one in the string, and the rest of the string is dropped as a comment. This example has no lists, so it keys a text only where no list matters.
+ * Whoever lends the lists of a Unicode version (tools/unicode-lists prints them) leaves this test out. */
+static size_t needs_lists(size_t tokens, size_t n) {
+    for (size_t i = 0; i < tokens; i++)
+        if (judged(i, n) < n)
+            return judged(i, n);
+    return n;
+}
+
 int main(void) {
     size_t n = fread(text, 1, sizeof text, stdin);
-    if (n > MOST) {
-        fprintf(stderr, "this example takes %d bytes\n", (int)MOST);
+    if (ferror(stdin) || n > MOST) {
+        fputs(n > MOST ? "this example takes 65536 bytes\n" : "standard input cannot be read\n", stderr);
         return 2;
+    }
+    struct lovemudarn_answer tokens = lovemudarn_tokens(text, n, none, 0, none, 0, none, 0, false, slots, 4 * (size_t)MOST);
+    if (tokens.number != LOVEMUDARN_DONE)
+        return explain(tokens);
+    size_t at = needs_lists(tokens.beside, n);
+    if (at < n) {
+        fprintf(stderr, "not keyed: at byte %zu stands a character past ASCII that only lists can judge, and this example has none; lend Unicode's lists\n", at);
+        return 1;
     }
     struct lovemudarn_answer a = lovemudarn_key(text, n, none, 0, none, 0, none, 0, key, MOST);
     if (a.number != LOVEMUDARN_DONE)
         return explain(a);
     printf("key, %zu bytes:\n", a.beside);
     fwrite(key, 1, a.beside, stdout);
-    a = lovemudarn_tokens(text, n, none, 0, none, 0, none, 0, false, slots, 4 * (size_t)MOST);
-    if (a.number != LOVEMUDARN_DONE)
-        return explain(a);
-    printf("\ntokens, %zu: code, suffix start, length, start\n", a.beside);
-    for (size_t i = 0; i < a.beside; i++)
+    printf("\ntokens, %zu: code, suffix start, length, start\n", tokens.beside);
+    for (size_t i = 0; i < tokens.beside; i++)
         printf("%u %u %u %u\n", (unsigned)slots[4 * i], (unsigned)slots[4 * i + 1], (unsigned)slots[4 * i + 2], (unsigned)slots[4 * i + 3]);
+    if (fflush(stdout) != 0 || ferror(stdout)) {
+        fprintf(stderr, "standard output cannot be written\n");
+        return 2;
+    }
     return 0;
 }

@@ -2,9 +2,10 @@
 //!
 //!     cargo run --release --manifest-path bindings/rust/Cargo.toml --example rule <rule.rs
 //!
-//! The status is 0 where it is done, 1 where there is no key, 2 where standard input cannot be read.
+//! The status is 0 where it is done, 1 where there is no key, 2 where input or output fails.
 
-use std::io::{self, Read};
+use std::fmt::Write as _;
+use std::io::{self, Read, Write};
 use std::process::ExitCode;
 
 use lovemudarn::{FrontmatterAllowed, Lists, Refusal, Token, key, needs_lists, tokenize};
@@ -30,13 +31,7 @@ fn main() -> ExitCode {
         Err(refusal) => return refused(refusal),
     }
     match answers(&text, &Lists::EMPTY) {
-        Ok((key, tokens)) => {
-            println!("key: {}", key.escape_ascii());
-            for token in tokens {
-                println!("{:?}, length {}, start {}", token.kind, token.len, token.start);
-            }
-            ExitCode::SUCCESS
-        }
+        Ok((key, tokens)) => printed(&key, &tokens),
         Err(refusal) => refused(refusal),
     }
 }
@@ -46,6 +41,23 @@ fn answers(text: &[u8], lists: &Lists) -> Result<(Vec<u8>, Vec<Token>), Refusal>
     let mut tokens = tokenize(text, FrontmatterAllowed::No, lists)?;
     let list = tokens.by_ref().collect();
     tokens.refusal().map_or(Ok((key, list)), Err)
+}
+
+fn printed(key: &[u8], tokens: &[Token]) -> ExitCode {
+    let mut lines = format!("key: {}\n", key.escape_ascii());
+    for Token { kind, len, start } in tokens {
+        // Nothing fails in a string.
+        let _ = writeln!(lines, "{kind:?}, length {len}, start {start}");
+    }
+    // A part of a key is no key: what was not written whole is told.
+    let mut out = io::stdout().lock();
+    match out.write_all(lines.as_bytes()).and_then(|()| out.flush()) {
+        Ok(()) => ExitCode::SUCCESS,
+        Err(error) => {
+            eprintln!("standard output cannot be written: {error}");
+            ExitCode::from(2)
+        }
+    }
 }
 
 fn refused(refusal: Refusal) -> ExitCode {

@@ -2,6 +2,7 @@
 //! it first: `cargo build --release --example rule`.
 
 use std::env;
+use std::fs::OpenOptions;
 use std::io::Write;
 use std::path::PathBuf;
 use std::process::{Command, Output, Stdio};
@@ -14,11 +15,15 @@ fn program() -> PathBuf {
 }
 
 fn run(text: &str) -> (Option<i32>, String, String) {
+    run_into(text, Stdio::piped())
+}
+
+fn run_into(text: &str, out: Stdio) -> (Option<i32>, String, String) {
     let program = program();
     assert!(program.is_file(), "no {}: build the example `rule` first", program.display());
     let mut child = Command::new(program)
         .stdin(Stdio::piped())
-        .stdout(Stdio::piped())
+        .stdout(out)
         .stderr(Stdio::piped())
         .spawn()
         .unwrap();
@@ -58,4 +63,13 @@ fn a_refusal_is_explained() {
     let (status, out, said) = run("let unit = \"mg;\n");
     assert_eq!((status, out.as_str()), (Some(1), ""));
     assert!(said.starts_with("refusal 6: ") && said.contains("begins at byte 11 "), "{said}");
+}
+
+/// A key that is not written whole has no good status.
+#[test]
+fn a_full_disk_is_told() {
+    let full = OpenOptions::new().write(true).open("/dev/full").unwrap();
+    let (status, _, said) = run_into("a", full.into());
+    assert_eq!(status, Some(2));
+    assert!(said.starts_with("standard output cannot be written"), "{said}");
 }
