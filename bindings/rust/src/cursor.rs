@@ -3,6 +3,7 @@
 //! Every call of the archive checks the whole text, since it trusts nothing. So the cursor does not ask
 //! for one token at a time but for blocks of them, and for a bounded number of blocks.
 
+use std::fmt;
 use std::iter::FusedIterator;
 use std::sync::Arc;
 
@@ -21,9 +22,9 @@ const PART: usize = 8;
 /// A place in a text, from which its tokens are read one after the other.
 ///
 /// Text and lists are checked where the cursor is made, and every refusal comes there. They stay
-/// borrowed, so what was checked stays so. The tokens are read in blocks, at most ten of them, into a
-/// buffer of the cursor's own of at most twice the text's bytes (or 4 KiB): to go through a text takes
-/// time that grows as its length does.
+/// borrowed, so what was checked stays so. The tokens are read in blocks, at most nine for a text, into
+/// a buffer of the cursor's own of about twice the text's bytes: the time to go through a text grows as
+/// its length does.
 ///
 /// A clone is a place to come back to, and costs little: clones share their block.
 ///
@@ -35,7 +36,7 @@ const PART: usize = 8;
 /// assert_eq!((cursor.position(), cursor.as_str()), (1, "+1"));
 /// # Ok::<(), lovemudarn::Refusal>(())
 /// ```
-#[derive(Clone, Debug)]
+#[derive(Clone)]
 pub struct Cursor<'a> {
     text: &'a str,
     lists: Lists<'a>,
@@ -235,6 +236,17 @@ impl<'a> Cursor<'a> {
     }
 }
 
+impl fmt::Debug for Cursor<'_> {
+    // Neither the text nor the block: they may be large.
+    fn fmt(&self, f: &mut fmt::Formatter<'_>) -> fmt::Result {
+        f.debug_struct("Cursor")
+            .field("position", &self.at)
+            .field("frontmatter", &self.frontmatter)
+            .field("refusal", &self.refusal)
+            .finish_non_exhaustive()
+    }
+}
+
 /// An answer that is none about this text.
 const FOREIGN: Refusal = Refusal::Unknown { number: 0, beside: 0, second: 0 };
 
@@ -267,6 +279,14 @@ pub struct Tokens<'a> {
 impl<'a> Tokens<'a> {
     pub(crate) fn of(cursor: Cursor<'a>) -> Tokens<'a> {
         Tokens { cursor }
+    }
+
+    /// As where the archive does not go on after so many tokens.
+    #[cfg(test)]
+    pub(crate) fn stopped_after(mut self, tokens: usize) -> Tokens<'a> {
+        self.cursor.filled = tokens;
+        self.cursor.room = 0;
+        self
     }
 
     /// Why there are no more tokens though the text goes on: [`Cursor::refusal`], which says when that

@@ -1,6 +1,6 @@
 //! The lists that a caller lends, and where a text cannot do without them.
 
-use crate::{FrontmatterAllowed, LiteralKind, Refusal, Token, TokenKind, tokenize};
+use crate::{FrontmatterAllowed, LiteralKind, Refusal, Token, TokenKind, Tokens, tokenize};
 
 /// The three lists of code points that are lent to the calls, in place of Unicode's tables.
 ///
@@ -61,7 +61,10 @@ impl Lists<'static> {
 // list may hold. A list is not asked about the character after a single quote where a quote follows it.
 pub fn needs_lists(text: impl AsRef<[u8]>) -> Result<Option<usize>, Refusal> {
     let text = text.as_ref();
-    let mut tokens = tokenize(text, FrontmatterAllowed::No, &Lists::EMPTY)?;
+    first_asked(text, tokenize(text, FrontmatterAllowed::No, &Lists::EMPTY)?)
+}
+
+fn first_asked(text: &[u8], mut tokens: Tokens) -> Result<Option<usize>, Refusal> {
     match tokens.find_map(|token| asked(text, token)) {
         Some(place) => Ok(Some(place)),
         // The end of the tokens is the end of the text only where nothing is refused.
@@ -90,4 +93,19 @@ fn asked(text: &[u8], token: Token) -> Option<usize> {
         _ => return None,
     };
     (byte(offset) >= 0x80).then_some(token.start + offset)
+}
+
+#[cfg(test)]
+mod tests {
+    use super::*;
+
+    /// What was not read is not said to need no lists.
+    #[test]
+    fn tokens_that_end_too_soon_are_refused() {
+        let text = ";;;é";
+        let tokens = || tokenize(text, FrontmatterAllowed::No, &Lists::EMPTY).unwrap();
+        assert_eq!(first_asked(text.as_bytes(), tokens()), Ok(Some(3)));
+        let refused = first_asked(text.as_bytes(), tokens().stopped_after(2));
+        assert!(matches!(refused, Err(Refusal::Unknown { .. })), "{refused:?}");
+    }
 }
