@@ -230,6 +230,8 @@ fn too_long() {
     let text = vec![0; 1 << 32];
     let bad = Lists { id_start: &[1], ..Lists::EMPTY };
     assert_eq!(check(&text, &bad), Err(Refusal::TooLong));
+    assert_eq!(Cursor::new(&text, No, &bad).map(|cursor| cursor.position()), Err(Refusal::TooLong));
+    assert_eq!(needs_lists(&text), Err(Refusal::TooLong));
     assert_eq!(strip_shebang(&text), Err(Refusal::TooLong));
     assert_eq!(Refusal::TooLong.number(), 1);
 }
