@@ -8,7 +8,7 @@ use std::fmt::Write as _;
 use std::io::{self, Read, Write};
 use std::process::ExitCode;
 
-use lovemudarn::{FrontmatterAllowed, Lists, Refusal, Token, key, needs_lists, tokenize};
+use lovemudarn::{Cursor, FrontmatterAllowed, Lists, Refusal, Token, key, needs_lists};
 
 fn main() -> ExitCode {
     let mut text = Vec::new();
@@ -38,9 +38,12 @@ fn main() -> ExitCode {
 
 fn answers(text: &[u8], lists: &Lists) -> Result<(Vec<u8>, Vec<Token>), Refusal> {
     let key = key(text, lists)?;
-    let mut tokens = tokenize(text, FrontmatterAllowed::No, lists)?;
-    let list = tokens.by_ref().collect();
-    tokens.refusal().map_or(Ok((key, list)), Err)
+    let mut cursor = Cursor::new(text, FrontmatterAllowed::No, lists)?;
+    let mut tokens = Vec::new();
+    while let Some(token) = cursor.try_advance_token()? {
+        tokens.push(token);
+    }
+    Ok((key, tokens))
 }
 
 fn printed(key: &[u8], tokens: &[Token]) -> ExitCode {

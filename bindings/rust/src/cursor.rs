@@ -113,17 +113,25 @@ impl<'a> Cursor<'a> {
     }
 
     /// The next token; the cursor then stands past it. At the end of the text it is
-    /// [`TokenKind::Eof`] of length 0, as often as it is asked for. (It is so too where
-    /// [`refusal`](Cursor::refusal) tells of a fault.)
+    /// [`TokenKind::Eof`] of length 0, as often as it is asked for. It is so too where
+    /// [`refusal`](Cursor::refusal) tells of a fault, which
+    /// [`try_advance_token`](Cursor::try_advance_token) does not let a caller overlook.
     pub fn advance_token(&mut self) -> Token {
-        match self.take() {
+        match self.try_advance_token() {
             Ok(Some(token)) => token,
-            Ok(None) => Token { kind: TokenKind::Eof, len: 0, start: self.at },
-            Err(refusal) => {
-                self.refusal = Some(refusal);
-                Token { kind: TokenKind::Eof, len: 0, start: self.at }
-            }
+            Ok(None) | Err(_) => Token { kind: TokenKind::Eof, len: 0, start: self.at },
         }
+    }
+
+    /// The next token; the cursor then stands past it. `None` at the end of the text and nowhere else.
+    ///
+    /// Refused is what [`refusal`](Cursor::refusal) tells of.
+    pub fn try_advance_token(&mut self) -> Result<Option<Token>, Refusal> {
+        let taken = self.take();
+        if let Err(refusal) = taken {
+            self.refusal = Some(refusal);
+        }
+        taken
     }
 
     /// The string after hashes that begins here, if there is one; the cursor then stands past it. Where
@@ -385,6 +393,7 @@ mod tests {
         // It stays so.
         let (refusal, rest) = (cursor.refusal(), cursor.as_str());
         assert_eq!(cursor.advance_token().kind, TokenKind::Eof);
+        assert_eq!(cursor.try_advance_token(), refusal.map_or(Ok(None), Err));
         assert_eq!(cursor.guarded_double_quoted_string(), None);
         assert_eq!((cursor.refusal(), cursor.as_str()), (refusal, rest));
         assert_eq!(rest.len(), text.len() - tokens);

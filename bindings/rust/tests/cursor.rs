@@ -30,6 +30,11 @@ fn same(text: &str, frontmatter: FrontmatterAllowed, lists: &Lists) -> usize {
         assert_eq!(cursor.advance_token(), end);
         assert_eq!((cursor.position(), cursor.as_str(), cursor.refusal()), (text.len(), "", None));
     }
+    let mut cursor = Cursor::new(text, frontmatter, lists).unwrap();
+    for &token in &tokens {
+        assert_eq!(cursor.try_advance_token(), Ok(Some(token)));
+    }
+    assert_eq!((cursor.try_advance_token(), cursor.try_advance_token()), (Ok(None), Ok(None)));
     let mut iterator = tokenize(text, frontmatter, lists).unwrap();
     assert_eq!(iterator.by_ref().collect::<Vec<_>>(), tokens);
     assert_eq!((iterator.next(), iterator.refusal()), (None, None));
