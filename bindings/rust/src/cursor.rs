@@ -442,5 +442,9 @@ mod tests {
         assert_eq!(cursor.guarded_double_quoted_string(), None);
         assert!(matches!(cursor.refusal(), Some(Refusal::List { .. })));
         assert_eq!((cursor.position(), cursor.advance_token().kind), (0, TokenKind::Eof));
+        // It stays so, even where the fault goes.
+        cursor.lists = Lists::EMPTY;
+        assert_eq!(cursor.guarded_double_quoted_string(), None);
+        assert_eq!((cursor.position(), cursor.advance_token().kind), (0, TokenKind::Eof));
     }
 }

@@ -210,6 +210,9 @@ fn prefixes() {
         ("br\"\"", 1),
         ("dr\"\"", 2),
         ("r", u32::MAX),
+        // No number is cut.
+        ("r\"\"", 0x101),
+        ("br\"\"", 0x1_0002),
     ] {
         assert_eq!(validate_raw_str(text, prefix), Err(Refusal::Prefix), "{text:?} {prefix}");
     }
