@@ -5,6 +5,7 @@
  *   ./example <rule.rs
  */
 #include <stdio.h>
+#include <string.h>
 #include "lovemudarn.h"
 
 enum { MOST = 65536 };
@@ -64,6 +65,11 @@ int main(void) {
         fputs(n > MOST ? "this example takes 65536 bytes\n" : "standard input cannot be read\n", stderr);
         return 2;
     }
+    /* rustc takes a shebang away before it looks for tokens: a comment or a string that seems to begin in one would hide rules. Blanks in its place keep every position. */
+    struct lovemudarn_answer a = lovemudarn_strip_shebang(text, n);
+    if (a.number != LOVEMUDARN_DONE)
+        return explain(a);
+    memset(text, ' ', a.beside); /* 0 where there is none */
     struct lovemudarn_answer tokens = lovemudarn_tokens(text, n, none, 0, none, 0, none, 0, false, slots, 4 * (size_t)MOST);
     if (tokens.number != LOVEMUDARN_DONE)
         return explain(tokens);
@@ -72,7 +78,7 @@ int main(void) {
         fprintf(stderr, "not keyed: at byte %zu stands a character past ASCII that only lists can judge, and this example has none; lend Unicode's lists\n", at);
         return 1;
     }
-    struct lovemudarn_answer a = lovemudarn_key(text, n, none, 0, none, 0, none, 0, key, MOST);
+    a = lovemudarn_key(text, n, none, 0, none, 0, none, 0, key, MOST);
     if (a.number != LOVEMUDARN_DONE)
         return explain(a);
     printf("key, %zu bytes:\n", a.beside);

@@ -8,13 +8,21 @@ use std::fmt::Write as _;
 use std::io::{self, Read, Write};
 use std::process::ExitCode;
 
-use lovemudarn::{Cursor, FrontmatterAllowed, Lists, Refusal, Token, key, needs_lists};
+use lovemudarn::{
+    Cursor, FrontmatterAllowed, Lists, Refusal, Token, key, needs_lists, strip_shebang,
+};
 
 fn main() -> ExitCode {
     let mut text = Vec::new();
     if let Err(error) = io::stdin().read_to_end(&mut text) {
         eprintln!("standard input cannot be read: {error}");
         return ExitCode::from(2);
+    }
+    // rustc takes a shebang away before it looks for tokens: a comment or a string that seems to begin in
+    // one would hide rules. Blanks in its place keep every position.
+    match strip_shebang(&text) {
+        Ok(end) => text.iter_mut().take(end.unwrap_or(0)).for_each(|byte| *byte = b' '),
+        Err(refusal) => return refused(refusal),
     }
     // This example has no lists, and WITHOUT LISTS TWO RULES THAT DIFFER MAY HAVE ONE KEY: see
     // `Lists::EMPTY`. So it keys a text only where no list matters. Whoever lends the lists of a Unicode
