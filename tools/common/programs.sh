@@ -14,7 +14,7 @@ state=$root/target/lovemudarn
 tab=$(printf '\t')
 limit=65536
 first_run='about 5 to 10 minutes'
-me='' lock=$state/lock watcher='' part=''
+me='' lock=$state/lock building='' part=''
 case ${LC_ALL:-${LC_CTYPE:-${LANG:-}}} in *[Uu][Tt][Ff]-8* | *[Uu][Tt][Ff]8*) utf8=1 ;; *) utf8=0 ;; esac
 
 # what goes wrong with the tool, and with reading a file
@@ -39,10 +39,7 @@ make_room() {
 # leave: what was begun is ended, and what is temporary removed
 leave() {
     trap '' INT TERM HUP
-    if [ -n "$watcher" ]; then
-        kill "$watcher" 2>/dev/null
-        echo "$tool: the build is ended before it is done. What was proved is kept, and the next run goes on from there." >&2
-    fi
+    [ -z "$building" ] || echo "$tool: the build is ended before it is done. What was proved is kept, and the next run goes on from there." >&2
     [ -z "$me" ] || let_go
     [ -z "$part" ] || rm -f -- "$part"
     rm -rf "$room"
@@ -345,14 +342,17 @@ started() {
     echo "${20}"
 }
 
-# name_me: leaves in `me` a name that no other run has: a number of a process is used again, but not with the same start
+# name_me: leaves in `me` a name that no other run has, since a number of a process is used again, but not with the same start; and in `mark` what the builds of
+# this repository are told by: its path, which a container or another mount may have for another one, with its inode, and where it is run
 name_me() {
     host=$(tr -cd 'A-Za-z0-9.' </proc/sys/kernel/hostname)
     boot=$(tr -cd '0-9a-f' </proc/sys/kernel/random/boot_id)
     space=$(readlink /proc/self/ns/pid | tr -cd '0-9')
     start=$(started $$)
+    inode=$(ls -di "$root/.")
     case -$host-$boot-$space-$start- in *--*) die 'the programs that do the work have to be built, and for that /proc has to be there' ;; esac
     me=$$-$start-$space-$boot-$host
+    mark="<$root><${inode%%[!0-9]*}-$space-$boot-$host>"
 }
 
 # gone NAME: whether the run of this name is known to have ended. One on another machine, or in another container, is not known to have.
@@ -409,7 +409,7 @@ grab() {
         esac
         mv "$entry" "$lock/held-$me" 2>/dev/null || continue
         # from now on no other build may run here: what a run that is gone has left is ended
-        end_builds "<$root><" || die 'a build that an earlier run has left cannot be ended'
+        end_builds "$mark" || die 'a build that an earlier run has left cannot be ended'
         return 0
     done
     # a lock without an entry is none, and this removes no other
@@ -420,11 +420,11 @@ grab() {
 # let_go: ends the build of this run, if there is one, and frees the lock. A build that is just about to begin sees first that it is not wanted any more.
 let_go() {
     mv "$lock/held-$me" "$lock/ending-$me" 2>/dev/null
-    end_builds "<$root><$me>"
+    end_builds "$mark<$me>"
     mv "$lock/ending-$me" "$lock/free" 2>/dev/null
 }
 
-# watch: ends the build, and removes what is temporary, where this run is gone and could not do it
+# watch: ends the build, and removes what is temporary, where this run is gone and could not do it. It ends by itself soon after the lock is let go.
 watch() {
     while [ -e "$lock/held-$me" ]; do
         if gone "$me"; then
@@ -534,16 +534,15 @@ build_held() {
         printf '%s\n' "$kit" >"$state/began-$program" || die "$state cannot be written"
     done
     rm -f "$room/ended"
+    building=yes
     watch >/dev/null 2>&1 </dev/null &
-    watcher=$!
-    LOVEMUDARN_BUILD="<$root><$me>" sh -c '
+    LOVEMUDARN_BUILD="$mark<$me>" sh -c '
         [ -e "$1" ] || exit
         ended=$2
         cd "$3" && shift 3 && rt check "$@" 2>&1 </dev/null
         echo $? >"$ended"' sh "$lock/held-$me" "$room/ended" "$root" "$@" | follow "$@" &
     wait $!
-    kill "$watcher" 2>/dev/null
-    watcher=
+    building=
     ended=unknown missing=
     [ ! -s "$room/ended" ] || read -r ended <"$room/ended"
     for program; do
