@@ -255,13 +255,17 @@ run() {
 
 # is_refused: whether the answer is a refusal, which is one line, and begins as no key and no list of tokens does. A NUL byte that a shell leaves out of
 # what it reads makes no difference: it takes one of the eight bytes.
-is_refused() { { [ "$(head -c 8 "$room/answer")" = "refused$tab" ]; } 2>/dev/null; }
+is_refused() {
+    { first=$(head -c 8 "$room/answer"); } 2>/dev/null || full
+    [ "$first" = "refused$tab" ]
+}
 
 # Reads the lines of print_tokens, a line `=` and the bytes. Empty and full lists part a text alike as far as no character past ASCII is asked for in a list, and
 # there is then one of these: a token Unknown; a literal of a quote and more than one character, the first past ASCII, which may be a lifetime; r# before a
 # character past ASCII, which may be a raw name. Without `keys` the first such place is written.
 # With it the first place at which a key may be another one: the quote as before (the raw name is refused as broken); a name with a character past ASCII that
 # ends right before a quote or a #, unless that character itself stands before " or #, where what follows is read alike.
+# Tokens that are not those of the bytes, as where one of the two could not be read, are a failure, and no answer.
 doubts='
 BEGIN { count = n = to = 0 }
 function in_name(c) { return c > 127 || c > 47 && c < 58 || c > 64 && c < 91 || c > 96 && c < 123 || c == 95 }
@@ -270,6 +274,8 @@ function size_of(c) { return c < 224 ? 2 : c < 240 ? 3 : 4 }
 !bytes { kind[count] = $1; size[count++] = $2; next }
 { for (i = 1; i <= NF; i++) b[n++] = $i + 0 }
 END {
+    for (t = at = 0; t < count; t++) at += size[t]
+    if (at != n) exit 3
     for (t = at = 0; t < count; at += size[t++]) {
         if (kind[t] == "Literal" && b[at] == 39 && b[at + 1] > 127 && b[at + 1 + size_of(b[at + 1])] != 39) { print at; exit }
         if (!keys && kind[t] == "Literal" && b[at] == 114 && b[at + 1] == 35 && b[at + 2] > 127) { print at; exit }
@@ -295,7 +301,7 @@ doubtful() {
     mv "$room/answer" "$room/key" || full
     run print_tokens
     doubt keys
-    mv "$room/key" "$room/answer"
+    mv "$room/key" "$room/answer" || full
     [ -n "$place" ]
 }
 
@@ -342,7 +348,7 @@ started() {
     echo "${20}"
 }
 
-# name_me: leaves in `me` a name that no other run has, since a number of a process is used again, but not with the same start; and in `mark` what the builds of
+# name_me: leaves in `me` a name that no other run has, since a number of a process is used again, but not with the same start; and in `builds` what the builds of
 # this repository are told by: its path, which a container or another mount may have for another one, with its inode, and where it is run
 name_me() {
     host=$(tr -cd 'A-Za-z0-9.' </proc/sys/kernel/hostname)
@@ -352,7 +358,7 @@ name_me() {
     inode=$(ls -di "$root/.")
     case -$host-$boot-$space-$start- in *--*) die 'the programs that do the work have to be built, and for that /proc has to be there' ;; esac
     me=$$-$start-$space-$boot-$host
-    mark="<$root><${inode%%[!0-9]*}-$space-$boot-$host>"
+    builds="<$root><${inode%%[!0-9]*}-$space-$boot-$host>"
 }
 
 # gone NAME: whether the run of this name is known to have ended. One on another machine, or in another container, is not known to have.
@@ -409,7 +415,7 @@ grab() {
         esac
         mv "$entry" "$lock/held-$me" 2>/dev/null || continue
         # from now on no other build may run here: what a run that is gone has left is ended
-        end_builds "$mark" || die 'a build that an earlier run has left cannot be ended'
+        end_builds "$builds" || die 'a build that an earlier run has left cannot be ended'
         return 0
     done
     # a lock without an entry is none, and this removes no other
@@ -420,7 +426,7 @@ grab() {
 # let_go: ends the build of this run, if there is one, and frees the lock. A build that is just about to begin sees first that it is not wanted any more.
 let_go() {
     mv "$lock/held-$me" "$lock/ending-$me" 2>/dev/null
-    end_builds "$mark<$me>"
+    end_builds "$builds<$me>"
     mv "$lock/ending-$me" "$lock/free" 2>/dev/null
 }
 
@@ -437,7 +443,8 @@ watch() {
 }
 
 # How long each part took, in seconds (Arm, two cores, 398 s in all): what is left is judged by it. A part that is not named counts as 20.
-weights=' refusal 7 basics 1 puts 4 text 31 ranges 20 eaters 1 reports 5 classes 21 token 5 cursor 26 kinds 34 canon 9 comment 26 words 32 quoted 17 numerals 19 token_line 11 literals 18 frontmatter 26 prefixed 15 advance 36 lexer 22 lines 42 key 61 print_tokens 59 print_key 59 well_formed 16 '
+weights=' refusal 7 basics 1 puts 4 text 31 ranges 20 eaters 1 reports 5 classes 21 token 5 cursor 26 kinds 34 canon 9 comment 26 words 32 quoted 17 numerals 19 '
+weights=$weights'token_line 11 literals 18 frontmatter 26 prefixed 15 advance 36 lexer 22 lines 42 key 61 print_tokens 59 print_key 59 well_formed 16 '
 weigh() {
     weight=20
     case $weights in *" $1 "*)
@@ -536,7 +543,7 @@ build_held() {
     rm -f "$room/ended"
     building=yes
     watch >/dev/null 2>&1 </dev/null &
-    LOVEMUDARN_BUILD="$mark<$me>" sh -c '
+    LOVEMUDARN_BUILD="$builds<$me>" sh -c '
         [ -e "$1" ] || exit
         ended=$2
         cd "$3" && shift 3 && rt check "$@" 2>&1 </dev/null
