@@ -6,12 +6,13 @@
 #   ready PROGRAM..         proves and builds the programs if that was not done since the sources last changed
 #   find_kit, program NAME  the toolchain's folder, and a program, run under its loader
 #   take FILE, run NAME     a copy of a file, and what a program writes for it: `room`/text, `room`/answer
-#   doubtful, tell_doubt    whether the copy may have another key with full Unicode lists, and saying so
+#   doubtful, tell_doubt    whether the copy may have another key as rustc reads it, with full Unicode lists, and saying so
 #   warn                    says where the copy may have other tokens with full Unicode lists
 #   put [FILE]              a file, or standard input, on standard output
 unset CDPATH
 state=$root/target/lovemudarn
 tab=$(printf '\t')
+blanks=$(printf ' \t\r\013\014')
 limit=65536
 first_run='about 5 to 10 minutes'
 me='' lock=$state/lock building='' part=''
@@ -265,25 +266,44 @@ is_refused() {
 # character past ASCII, which may be a raw name. Without `keys` the first such place is written.
 # With it the first place at which a key may be another one: the quote as before (the raw name is refused as broken); a name with a character past ASCII that
 # ends right before a quote or a #, unless that character itself stands before " or #, where what follows is read alike.
+# And, whatever the lists, what rustc takes away before it reads: a shebang in which a token begins that ends in a later line (only #! before [ is none: 000,
+# strip_shebang; a comment that might be a doc comment is taken for no trivia), and frontmatter. What is written is the place, and what it is.
 # Tokens that are not those of the bytes, as where one of the two could not be read, are a failure, and no answer.
 doubts='
 BEGIN { count = n = to = 0 }
 function in_name(c) { return c > 127 || c > 47 && c < 58 || c > 64 && c < 91 || c > 96 && c < 123 || c == 95 }
 function size_of(c) { return c < 224 ? 2 : c < 240 ? 3 : 4 }
+function said(at, why) { print at, why; exit }
+function attribute(t, at) {                  # whether [ follows #!, trivia between them or not
+    for (; kind[t] == "Whitespace" || kind[t] ~ /Comment$/ && b[at + 2] != 33 && b[at + 2] != 42 && b[at + 2] != 47; t++) at += size[t]
+    return kind[t] == "OpenBracket"
+}
+function top(    t, at, end) {
+    t = at = 0
+    if (b[0] == 239 && b[1] == 187 && b[2] == 191) at += size[t++]       # a byte order mark
+    if (b[at] == 35 && b[at + 1] == 33 && !attribute(t + 2, at + 2)) {
+        for (end = at; end < n && b[end] != 10; end++) ;
+        for (; t < count && at + size[t] <= end; t++) at += size[t]
+        if (t < count && at < end && kind[t] != "Whitespace") said(at, "shebang")
+    }
+    for (; kind[t] == "Whitespace"; t++) at += size[t]
+    if (kind[t] == "Minus" && kind[t + 1] == "Minus" && kind[t + 2] == "Minus") said(at, "frontmatter")
+}
 !bytes && $1 == "=" { bytes = 1; next }
 !bytes { kind[count] = $1; size[count++] = $2; next }
 { for (i = 1; i <= NF; i++) b[n++] = $i + 0 }
 END {
     for (t = at = 0; t < count; t++) at += size[t]
     if (at != n) exit 3
+    if (keys) top()
     for (t = at = 0; t < count; at += size[t++]) {
-        if (kind[t] == "Literal" && b[at] == 39 && b[at + 1] > 127 && b[at + 1 + size_of(b[at + 1])] != 39) { print at; exit }
-        if (!keys && kind[t] == "Literal" && b[at] == 114 && b[at + 1] == 35 && b[at + 2] > 127) { print at; exit }
+        if (kind[t] == "Literal" && b[at] == 39 && b[at + 1] > 127 && b[at + 1 + size_of(b[at + 1])] != 39) said(at, "name")
+        if (!keys && kind[t] == "Literal" && b[at] == 114 && b[at + 1] == 35 && b[at + 2] > 127) said(at, "name")
         if (kind[t] != "Unknown" || size[t] == 1) continue
-        if (!keys) { print at; exit }
+        if (!keys) said(at, "name")
         if (at < to) continue
         for (to = at; to < n && in_name(b[to]); to++) ;
-        if (to < n && (b[to] == 39 || b[to - 1] < 128 && (b[to] == 34 || b[to] == 35))) { print at; exit }
+        if (to < n && (b[to] == 39 || b[to - 1] < 128 && (b[to] == 34 || b[to] == 35))) said(at, "name")
     }
 }'
 
@@ -292,12 +312,25 @@ past_ascii() {
     LC_ALL=C tr -d '\000-\177' <"$room/text" >"$room/past" || full
     [ -s "$room/past" ]
 }
-# doubt [KEYS]: leaves in `place` where the copy may be read otherwise with full lists, judged by its tokens in `room`/answer; none is left where none is
-doubt() { place=$({ cat "$room/answer"; echo '='; od -An -v -tu1 "$room/text"; } | LC_ALL=C awk -v keys="${1:-}" "$doubts") || die 'awk or od failed'; }
+# odd_top: whether the copy may begin with a shebang or with frontmatter, a byte order mark left aside, which is past ASCII
+odd_top() {
+    top=
+    while [ -z "$top" ] && IFS= read -r top || [ -n "$top" ]; do
+        top=${top#"${top%%[!"$blanks"]*}"}
+        case $top in '#!'* | ---*) return 0 ;; ?*) return 1 ;; esac
+    done <"$room/text"
+    return 1
+}
+# doubt [KEYS]: leaves in `place` and `why` where the copy may be read otherwise by rustc, judged by its tokens in `room`/answer; none is left where none is
+doubt() {
+    place=$({ cat "$room/answer"; echo '='; od -An -v -tu1 "$room/text"; } | LC_ALL=C awk -v keys="${1:-}" "$doubts") || die 'awk or od failed'
+    why=${place#* }
+    place=${place% *}
+}
 
-# doubtful: whether the copy, which has a key with empty lists, may have another one with full lists
+# doubtful: whether the copy, which has a key with empty lists, may have another one as rustc reads it
 doubtful() {
-    past_ascii || return 1
+    past_ascii || odd_top || return 1
     mv "$room/answer" "$room/key" || full
     run print_tokens
     doubt keys
@@ -317,6 +350,22 @@ show_place() {
 # tell_doubt: that the copy is not keyed, and why
 tell_doubt() {
     {
+        case $why in
+        shebang)
+            show_place 'not keyed: a first line that this tool may read wrongly'
+            echo '  What it means: the file begins with #!, and rustc takes such a line away before it reads the rest. This tool reads it as source, and what begins here'
+            echo '    in the first line ends in a later one: it would hide from the key what rustc reads.'
+            echo '  What to do: change the first line; or use the C, Rust or Rattle interface, and strip_shebang first (docs/GUIDE.md).'
+            return
+            ;;
+        frontmatter)
+            show_place 'not keyed: a beginning that this tool may read wrongly'
+            echo '  What it means: --- at the top begins frontmatter, which rustc takes away where it is switched on. This tool reads it as source, and something in it may'
+            echo '    hide from the key what rustc reads.'
+            echo '  What to do: take it out; or use the C, Rust or Rattle interface: the first token with frontmatter on ends where it ends, and the rest has a key (docs/GUIDE.md).'
+            return
+            ;;
+        esac
         show_place 'not keyed: a name past ASCII that this tool may read wrongly'
         echo '  What it means: this tool reads without Unicode lists. Here a lifetime or a label begins past ASCII, or a name with a character past ASCII ends'
         echo '    right before a quote or a #. With lists the text may part into other tokens there, and its key may be another one.'
