@@ -168,13 +168,15 @@ fn no_run(n: Numbers) -> RunAnswer
 fn ran_out(tokens: usize, scan: Scan) -> RunAnswer
     ensures { λ r. ⌜ r ≡ ranOut tokens scan ⌝ }
 {
+    let next = scan.next;
+    let on = scan.on;
     RunAnswer {
         number: 0,
         beside: tokens,
-        second: scan.next,
+        second: next,
         tokens,
-        next: scan.next,
-        on: scan.on,
+        next,
+        on,
     }
 }
 
