@@ -43,6 +43,16 @@ fn a_text_is_keyed() {
     assert_eq!(lines.nth(1), Some("Ident, length 1, start 7"));
 }
 
+/// As source the comment would begin in the first line, and these two would have one key.
+#[test]
+fn a_shebang_hides_nothing() {
+    for limit in ["5", "9"] {
+        let (status, out, said) = run(&format!("#!/usr/*/run\nx = {limit}; // */\n"));
+        assert_eq!((status, said.as_str()), (Some(0), ""));
+        assert_eq!(out.lines().next(), Some(format!("key: \\nx\\n=\\n{limit};\\n").as_str()));
+    }
+}
+
 /// With empty lists these two would have one key.
 #[test]
 fn a_text_that_needs_lists_is_not() {
