@@ -45,6 +45,23 @@ pub use refusal::{ListName, Refusal};
 // unique where it goes in as `*mut`, and a slice's pointer is never null. The archive reads and writes
 // inside these slices alone and keeps no pointer: that is proved of every function in it.
 
+// A call of the archive on a text and all three lists; what else it takes comes after them.
+macro_rules! with_lists {
+    ($call:ident, $text:expr, $lists:expr $(, $more:expr)*) => {
+        raw::$call(
+            $text.as_ptr(),
+            $text.len(),
+            $lists.id_start.as_ptr(),
+            $lists.id_start.len(),
+            $lists.id_continue.as_ptr(),
+            $lists.id_continue.len(),
+            $lists.emoji.as_ptr(),
+            $lists.emoji.len()
+            $(, $more)*
+        )
+    };
+}
+
 /// A token, and how to go on.
 #[derive(Clone, Copy, Debug, PartialEq, Eq, Hash)]
 pub struct Advanced {
@@ -97,18 +114,13 @@ pub fn tokenize_into(
     let slots = records.as_flattened_mut();
     // SAFETY: slices borrowed for the call, `slots` uniquely; see the head of this file.
     let answer = unsafe {
-        raw::lovemudarn_tokens(
-            text.as_ptr(),
-            text.len(),
-            lists.id_start.as_ptr(),
-            lists.id_start.len(),
-            lists.id_continue.as_ptr(),
-            lists.id_continue.len(),
-            lists.emoji.as_ptr(),
-            lists.emoji.len(),
+        with_lists!(
+            lovemudarn_tokens,
+            text,
+            lists,
             frontmatter == FrontmatterAllowed::Yes,
             slots.as_mut_ptr(),
-            slots.len(),
+            slots.len()
         )
     };
     done(answer)
@@ -130,19 +142,14 @@ pub fn tokens_from(
     let slots = records.as_flattened_mut();
     // SAFETY: slices borrowed for the call, `slots` uniquely; see the head of this file.
     let answer = unsafe {
-        raw::lovemudarn_tokens_from(
-            text.as_ptr(),
-            text.len(),
-            lists.id_start.as_ptr(),
-            lists.id_start.len(),
-            lists.id_continue.as_ptr(),
-            lists.id_continue.len(),
-            lists.emoji.as_ptr(),
-            lists.emoji.len(),
+        with_lists!(
+            lovemudarn_tokens_from,
+            text,
+            lists,
             at,
             frontmatter == FrontmatterAllowed::Yes,
             slots.as_mut_ptr(),
-            slots.len(),
+            slots.len()
         )
     };
     refused(answer.number, answer.beside, answer.second)?;
@@ -171,18 +178,7 @@ pub fn advance_token(
     let text = text.as_ref();
     // SAFETY: slices borrowed for the call; see the head of this file.
     let answer = unsafe {
-        raw::lovemudarn_token(
-            text.as_ptr(),
-            text.len(),
-            lists.id_start.as_ptr(),
-            lists.id_start.len(),
-            lists.id_continue.as_ptr(),
-            lists.id_continue.len(),
-            lists.emoji.as_ptr(),
-            lists.emoji.len(),
-            at,
-            frontmatter == FrontmatterAllowed::Yes,
-        )
+        with_lists!(lovemudarn_token, text, lists, at, frontmatter == FrontmatterAllowed::Yes)
     };
     refused(answer.number, answer.beside, answer.second)?;
     let kind = kind_of(answer.kind, answer.suffix_start)?;
@@ -217,20 +213,7 @@ pub fn key(text: impl AsRef<[u8]>, lists: &Lists) -> Result<Vec<u8>, Refusal> {
 pub fn key_into(text: impl AsRef<[u8]>, lists: &Lists, out: &mut [u8]) -> Result<usize, Refusal> {
     let text = text.as_ref();
     // SAFETY: slices borrowed for the call, `out` uniquely; see the head of this file.
-    let answer = unsafe {
-        raw::lovemudarn_key(
-            text.as_ptr(),
-            text.len(),
-            lists.id_start.as_ptr(),
-            lists.id_start.len(),
-            lists.id_continue.as_ptr(),
-            lists.id_continue.len(),
-            lists.emoji.as_ptr(),
-            lists.emoji.len(),
-            out.as_mut_ptr(),
-            out.len(),
-        )
-    };
+    let answer = unsafe { with_lists!(lovemudarn_key, text, lists, out.as_mut_ptr(), out.len()) };
     done(answer)
 }
 
@@ -238,18 +221,7 @@ pub fn key_into(text: impl AsRef<[u8]>, lists: &Lists, out: &mut [u8]) -> Result
 pub fn check(text: impl AsRef<[u8]>, lists: &Lists) -> Result<(), Refusal> {
     let text = text.as_ref();
     // SAFETY: slices borrowed for the call; see the head of this file.
-    let answer = unsafe {
-        raw::lovemudarn_check(
-            text.as_ptr(),
-            text.len(),
-            lists.id_start.as_ptr(),
-            lists.id_start.len(),
-            lists.id_continue.as_ptr(),
-            lists.id_continue.len(),
-            lists.emoji.as_ptr(),
-            lists.emoji.len(),
-        )
-    };
+    let answer = unsafe { with_lists!(lovemudarn_check, text, lists) };
     done(answer).map(|_| ())
 }
 
