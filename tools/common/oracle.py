@@ -6,6 +6,9 @@ from common.ending import fail
 from common.lists import LIST_NAMES, bad_index
 from common.packing import CLASS_NAMES, START
 
+# Why bytes are no character, as Python's decoder says it.
+REASONS = {"invalid start byte": 1, "unexpected end of data": 2, "invalid continuation byte": 3}
+
 
 class Oracle:
     def __init__(self, program):
@@ -42,18 +45,18 @@ class Oracle:
             self.lent[which] = numbers
 
     def verdict(self, text):
-        """None for well-formed, else the place."""
+        """None for well-formed, else the place and the cause."""
         words = self.ask(f"utf8 {text.hex()}").split()
-        place = None if words[0] == "good" else int(words[1], 16)
-        # A second witness: Python's decoder gives the same place.
+        ill = None if words[0] == "good" else (int(words[1], 16), int(words[2]))
+        # A second witness: Python's decoder gives the same place and cause.
         try:
             text.decode("utf-8")
             seen = None
         except UnicodeDecodeError as error:
-            seen = error.start
-        if seen != place:
-            fail(f"two decoders differ on {text.hex()}: {place} and {seen}")
-        return place
+            seen = (error.start, REASONS[error.reason])
+        if seen != ill:
+            fail(f"two decoders differ on {text.hex()}: {ill} and {seen}")
+        return ill
 
     def verdict_after(self, prefix):
         return bytes(int(word, 16) for word in self.ask(f"utf8-after {prefix.hex()}").split())

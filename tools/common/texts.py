@@ -416,6 +416,8 @@ def edge_frontmatter():
     return requests + [tokens("on", "---" + text) for text in over("-\n a", 4)]
 
 
+# The first and the last byte of each row of UTF-8, of its second bytes too, and what is right before and right after them.
+EDGE_BYTES = bytes.fromhex("00417f808f909fa0bfc0c1c2dfe0e1ecedeeeff0f1f3f4f5ff")
 ILL_FORMED = [
     b"\x80", b"\xff", b"\xc3", b"a\x80", b"a\xc3", b"a\xffb", b"\xe2\x82", b"\xc0\xaf", b"\xed\xa0\x80",
     b"\xf0\x9f\x98", b"\xf4\x90\x80\x80", b"/*\xff*/", b"'\xc3'", b'r"\x80"', b'br#"\xf0\x9f"#',

@@ -229,7 +229,7 @@ class Files:
             texts.append((MODES.index(mode), bytes.fromhex("".join(words))))
         for count in (RECORDS - 1, RECORDS, RECORDS + 1):
             texts += [(0, b";" * count), (1, b" ;" * (count // 2) + b" " * (count % 2)), (1, b"---\n---\n" + b"a " * ((count - 2) // 2) + b"b" * (count % 2))]
-        return texts + [(0, b"a+1"), (0, b""), (1, b""), (0, b"+" * 3000), (0, b"a\xff"), (1, b"\xc3")]
+        return texts + [(0, b"a+1"), (0, b""), (1, b""), (0, b"+" * 3000), (0, b"a\xff"), (1, b"\xc3"), (0, b"\xe2(")]
 
     def list_records(self):
         texts = self.listed_texts()

@@ -8,7 +8,7 @@ from common.ending import fail
 from common.keys import first_broken, key_of, pieces
 from common.lists import bad_index
 from common.packing import (
-    ANSWER_LIMIT, GUARDED, KEY, LIST, MOST_ROOM, ONE, RAW, RECORDS, SHEBANG, SLOTS, TOKENS,
+    ANSWER_LIMIT, GUARDED, KEY, LIST, MOST_ROOM, ONE, RAW, RECORDS, SHEBANG, SLOTS, TOKENS, VERDICT,
     numbers_in, numbers_of, section, vector, vector_at,
 )
 from common.texts import request
@@ -113,9 +113,9 @@ class Calls:
         for which in range(lists_used):
             if self.bad[which] is not None:
                 return numbers_of(3, which, self.bad[which])
-        place = self.oracle.verdict(text)
-        if place is not None:
-            return numbers_of(2, place, 0)
+        ill = self.oracle.verdict(text)
+        if ill is not None:
+            return numbers_of(2, *ill)
         if position is not None and not is_boundary(text, position):
             return numbers_of(4, position, 0)
         return None
@@ -135,6 +135,10 @@ class Calls:
             if made not in self.vectors:
                 self.vectors[made] = None
                 self.size += len(made)
+
+    def verdict(self, text):
+        refused = self.refusal(0, text)
+        self.add(VERDICT, text, numbers_of(0, 0, 0) if refused is None else refused)
 
     def one(self, flag, position, text):
         answer = self.refusal(3, text, position)

@@ -7,8 +7,8 @@
 //! | request                   | answer                                                     |
 //! |---------------------------|------------------------------------------------------------|
 //! | `list WHICH LOW HIGH ..`  | `ok`; lends the list; WHICH is `start`, `continue`, `emoji` |
-//! | `utf8 TEXT`               | `good`, or `bad PLACE`: the first ill-formed sequence      |
-//! | `utf8-after TEXT`         | 256 numbers, for TEXT and then byte 0, 1, ..: 0 or 1 + PLACE |
+//! | `utf8 TEXT`               | `good`, or `bad PLACE CAUSE`: the first ill-formed sequence |
+//! | `utf8-after TEXT`         | 256 numbers, for TEXT and then byte 0, 1, ..: 0 or PLACE + 64 * CAUSE |
 //! | `class NAME NUMBER`       | `yes`, `no`, or `none` where NUMBER is no scalar value     |
 //! | `runs NAME`               | `LOW-HIGH=yes` or `LOW-HIGH=no`, separated by spaces          |
 //! | `ident TEXT`              | `yes` or `no`                                              |
@@ -23,8 +23,11 @@
 //! the longest of equal answers, over all scalar values in order; none crosses the
 //! surrogates. A request that is not understood is answered `error` and why.
 //!
-//! From `ident` on, a text that is not UTF-8 is answered `bad PLACE` as `utf8` says; from
+//! From `ident` on, a text that is not UTF-8 is answered `bad PLACE CAUSE` as `utf8` says; from
 //! `tokens` on, a panic of 000 is answered `panic`.
+//!
+//! CAUSE is 2 where Rust's decoder says that the text ends too early. Else it is 3 where the decoder says so
+//! of the sequence's first byte alone, which then starts a sequence, and 1 where it does not.
 //!
 //! ALLOWED says whether frontmatter is: `on` or `off`. A token is its kind, what the kind
 //! holds in the order of 000's fields, and its length, separated by commas. What is missing
@@ -44,11 +47,18 @@
 mod tokens;
 
 use std::io::{self, BufRead, Write};
+use std::str::Utf8Error;
 
 use rustc_lexer::FrontmatterAllowed;
 use unicode_properties::UnicodeEmoji;
 
 type Answer = Result<String, String>;
+
+/// The first ill-formed sequence of a text: where it starts, and why it is none.
+struct Ill {
+    place: usize,
+    cause: u8,
+}
 
 fn main() -> io::Result<()> {
     let mut out = io::stdout().lock();
@@ -68,7 +78,7 @@ fn answer(words: &[&str]) -> Answer {
         ["list", which, numbers @ ..] => lend(which, numbers),
         ["utf8", text @ ..] => Ok(match utf8(&bytes(text)?) {
             Ok(_) => "good".to_string(),
-            Err(place) => format!("bad {place:x}"),
+            Err(ill) => bad(ill),
         }),
         ["utf8-after", text @ ..] => Ok(utf8_after(&bytes(text)?)),
         ["class", name, point] => {
@@ -107,11 +117,11 @@ fn answer(words: &[&str]) -> Answer {
     }
 }
 
-/// The answer about a text, or where it ceases to be UTF-8.
+/// The answer about a text, or where and why it ceases to be UTF-8.
 fn about(words: &[&str], call: impl FnOnce(&str) -> Answer) -> Answer {
     match utf8(&bytes(words)?) {
         Ok(text) => call(text),
-        Err(place) => Ok(format!("bad {place:x}")),
+        Err(ill) => Ok(bad(ill)),
     }
 }
 
@@ -167,9 +177,28 @@ fn lend(which: &str, numbers: &[&str]) -> Answer {
     Ok("ok".to_string())
 }
 
-/// The text, or the start of its first ill-formed sequence.
-fn utf8(text: &[u8]) -> Result<&str, usize> {
-    std::str::from_utf8(text).map_err(|error| error.valid_up_to())
+/// The text, or its first ill-formed sequence.
+fn utf8(text: &[u8]) -> Result<&str, Ill> {
+    std::str::from_utf8(text).map_err(|error| {
+        let place = error.valid_up_to();
+        Ill { place, cause: cause(&error, text[place]) }
+    })
+}
+
+/// Why a sequence with that first byte is none, as the decoder says it.
+fn cause(error: &Utf8Error, first: u8) -> u8 {
+    let ends_early = |error: &Utf8Error| error.error_len().is_none();
+    if ends_early(error) {
+        return 2;
+    }
+    match std::str::from_utf8(&[first]) {
+        Err(alone) if ends_early(&alone) => 3,
+        _ => 1,
+    }
+}
+
+fn bad(ill: Ill) -> String {
+    format!("bad {:x} {}", ill.place, ill.cause)
 }
 
 fn utf8_after(prefix: &[u8]) -> String {
@@ -181,7 +210,7 @@ fn utf8_after(prefix: &[u8]) -> String {
             text[last] = byte;
             match utf8(&text) {
                 Ok(_) => "0".to_string(),
-                Err(place) => format!("{:x}", 1 + place),
+                Err(ill) => format!("{:x}", ill.place + 64 * usize::from(ill.cause)),
             }
         })
         .collect();

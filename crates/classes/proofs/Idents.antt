@@ -7,6 +7,7 @@ use lib.ListN.{drop}
 use Rattle.basics.specs.Choice.{and}
 use Rattle.basics.specs.Tests.{all}
 use Rattle.basics.proofs.Sums.{zero-plus}
+use Rattle.refusal.specs.declared.Cause.{Cause}
 use Rattle.text.specs.declared.Decoded.{Decoded}
 use Rattle.text.specs.declared.Decoded.the-variants.{Char, End, Ill}
 use Rattle.text.specs.Utf8.{decoded}
@@ -35,7 +36,7 @@ module _ (l s : List ℕ) (from at : ℕ) {d : Decoded} (g : Onward l s from at)
   pub onward-end : d ≡ End → true ≡ all (idContinue l) (chars (drop from s))
   onward-end k = sym (sym (g .same) ∙ ap (all (idContinue l)) (end-chars s at e k))
 
-  pub onward-ill : d ≡ Ill → true ≡ all (idContinue l) (chars (drop from s))
+  pub onward-ill : {x : Cause} → d ≡ Ill x → true ≡ all (idContinue l) (chars (drop from s))
   onward-ill k = sym (sym (g .same) ∙ ap (all (idContinue l)) (ill-chars s at e k))
 
 -- the whole text, by its first character
@@ -55,5 +56,5 @@ module _ (a b s : List ℕ) {d : Decoded} (e : d ≡ decoded (drop 0 s)) where
   pub ident-end : d ≡ End → false ≡ isIdent a b (chars s)
   ident-end k = sym (ap (isIdent a b) (end-chars s 0 e k))
 
-  pub ident-ill : d ≡ Ill → false ≡ isIdent a b (chars s)
+  pub ident-ill : {x : Cause} → d ≡ Ill x → false ≡ isIdent a b (chars s)
   ident-ill k = sym (ap (isIdent a b) (ill-chars s 0 e k))

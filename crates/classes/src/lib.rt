@@ -177,7 +177,7 @@ fn all_continue(text: &[u8], from: usize, continues: &[u32]) -> bool
                 }
             }
             Decoded::End => return true,
-            Decoded::Ill => return true,
+            Decoded::Ill(_) => return true,
         }
     }
 }
@@ -196,7 +196,7 @@ fn ident(text: &[u8], starts: &[u32], continues: &[u32]) -> bool
             }
         }
         Decoded::End => false,
-        Decoded::Ill => false,
+        Decoded::Ill(_) => false,
     }
 }
 

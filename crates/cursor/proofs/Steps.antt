@@ -4,6 +4,7 @@ use mathlib.Core.Path.{_≡_, refl, sym, ap, _∙_}
 use mathlib.Core.List.{List, _∷_}
 use lib.ListN.{length, getD, drop, length-drop}
 use native.Mathlib.Omega.{arith}
+use Rattle.refusal.specs.declared.Cause.{Cause}
 use Rattle.text.specs.declared.Decoded.{Decoded}
 use Rattle.text.specs.declared.Decoded.the-variants.{Char, End, Ill}
 use Rattle.text.specs.Utf8.{decoded}
@@ -30,7 +31,7 @@ module _ (s : List ℕ) (c : Cursor) {d : Decoded} (e : d ≡ decoded (drop (c .
   pub seen-end : d ≡ End → Seen s c Over
   seen-end k = end (rest-is s c ∙ end-chars s (c .at) e k)
 
-  pub seen-ill : d ≡ Ill → Seen s c Over
+  pub seen-ill : {x : Cause} → d ≡ Ill x → Seen s c Over
   seen-ill k = end (rest-is s c ∙ ill-chars s (c .at) e k)
 
 -- from a place on

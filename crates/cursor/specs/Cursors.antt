@@ -23,7 +23,7 @@ rest-is s c = refl
 abbrev pub onto : (at : ℕ) → Decoded → Step
 onto at (Char x w) = Got x (record { at = at + w })
 onto at End = Over
-onto at Ill = Over
+onto at (Ill cause) = Over
 
 unfoldable pub stepAt : List ℕ → Cursor → Step
 stepAt s c = onto (c .at) (decoded (drop (c .at) s))

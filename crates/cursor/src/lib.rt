@@ -101,7 +101,7 @@ impl Cursor {
                 Step::Got(c, next)
             }
             Decoded::End => Step::Over,
-            Decoded::Ill => Step::Over,
+            Decoded::Ill(_) => Step::Over,
         }
     }
 

@@ -11,6 +11,15 @@ fn say(words: &[u8]) {
     io::write_all(STDOUT_FILENO, words);
 }
 
+// Why bytes are no character, by the second number beside refusal 2.
+fn say_cause(cause: usize) {
+    match cause {
+        1 => say(b"the byte there cannot start a character\n"),
+        2 => say(b"it ends inside a character\n"),
+        _ => say(b"a byte after the first is wrong\n"),
+    }
+}
+
 // A refusal by number, and what it means.
 fn explain(n: Numbers) {
     say(b"refused with number ");
@@ -19,7 +28,10 @@ fn explain(n: Numbers) {
     io::print_decimal(STDOUT_FILENO, n.beside as u64);
     let number = n.number;
     match number {
-        2 => say(b": the text is not UTF-8 there\n"),
+        2 => {
+            say(b": the text is not UTF-8 there: ");
+            say_cause(n.second);
+        }
         6 => say(b": a literal or a block comment begins there and does not end\n"),
         _ => say(b"\n"),
     }
@@ -76,4 +88,5 @@ fn main() {
     say_key(b"/* a */x = 1; // b\n");
     say_tokens(b"a+1");
     say_key(b"x = '/**/'");
+    say_key(b"x = \xE2\x82");
 }

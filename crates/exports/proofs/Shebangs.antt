@@ -48,7 +48,7 @@ shebang-past L (a ∷ b ∷ cs) =
 refused-some : (x : Bad) → badNumbers x .number ≡ 0 → ⊥
 refused-some bad.TooLong e = omega (arith, e)
 refused-some (bad.List l p) e = omega (arith, e)
-refused-some (bad.NotUtf8 n) e = omega (arith, e)
+refused-some (bad.NotUtf8 n k) e = omega (arith, e)
 
 absent-at : (v : Verdict) (p : Place) → Past p → shebangNumbers (refusedOr Refused v (shebangAt p)) .number ≡ 0 → shebangNumbers (refusedOr Refused v (shebangAt p)) .beside ≡ 0 → refusedOr Refused v (shebangAt p) ≡ Absent
 absent-at verdict.Fine (at n) h e f = absurd (omega (arith, h, f))

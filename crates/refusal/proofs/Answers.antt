@@ -1,8 +1,10 @@
 -- Document 01, "Nothing left open": two answers that a promise allows for the same arguments are the same answer.
 use mathlib.Core.Path.{_≡_, sym, _∙_}
+use Prim.Native.Nat.{ℕ}
 use Rattle.refusal.specs.declared.Numbers.{Numbers}
 use Rattle.refusal.specs.declared.Verdict.{Verdict}
 use Rattle.refusal.proofs.done.Reads as done
+use Rattle.refusal.proofs.cause_number.Reads as cause-number
 use Rattle.refusal.proofs.bad_numbers.Reads as bad-numbers
 use Rattle.refusal.proofs.verdict_numbers.Reads as verdict-numbers
 use Rattle.refusal.proofs.first.Reads as first
@@ -11,6 +13,9 @@ use Rattle.refusal.proofs.lists_in_order.Reads as lists-in-order
 
 pub one-done : (κs : _) (a : _) (r q : Numbers) (x y : _) → done.Post κs a r x → done.Post κs a q y → r ≡ q
 one-done κs a r q x y p e = p ∙ sym e
+
+pub one-cause-number : (κs : _) (a : _) (r q : ℕ) (x y : _) → cause-number.Post κs a r x → cause-number.Post κs a q y → r ≡ q
+one-cause-number κs a r q x y p e = p ∙ sym e
 
 pub one-bad-numbers : (κs : _) (a : _) (r q : Numbers) (x y : _) → bad-numbers.Post κs a r x → bad-numbers.Post κs a q y → r ≡ q
 one-bad-numbers κs a r q x y p e = p ∙ sym e

@@ -1,3 +1,4 @@
 pub mod Orders
+pub mod Causes
 pub mod Answers
 pub mod Handing

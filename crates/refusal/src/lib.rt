@@ -3,15 +3,26 @@
 // the numbers of each case, made from `badNumbers`.
 ghost use mathlib.Core.Path.{_≡_};
 ghost use Rattle.refusal.specs.Order.{inOrder, listsInOrder};
-ghost use Rattle.refusal.specs.Numbers.{numbers, badNumbers, verdictNumbers};
+ghost use Rattle.refusal.specs.Numbers.{numbers, causeNumber, badNumbers, verdictNumbers};
+
+// Why a sequence of bytes is no character (document 02, W2). Its bytes are judged from the left, and the first that cannot stand where it stands,
+// or the end of the text if that comes first, is the cause.
+pub enum Cause {
+    // its first byte cannot start a sequence
+    Start,
+    // the text ends inside the sequence
+    Cut,
+    // a following byte is wrong; overlong forms, surrogates and values past U+10FFFF are that
+    Follow,
+}
 
 pub enum Bad {
     // the text has more than 4,294,967,295 bytes
     TooLong,
     // a list breaks a rule: the list (0 id start, 1 id continue, 2 emoji) and the index of the pair
     List(usize, usize),
-    // the text is not UTF-8: the start of the first ill-formed sequence
-    NotUtf8(usize),
+    // the text is not UTF-8: the start of the first ill-formed sequence, and its cause
+    NotUtf8(usize, Cause),
 }
 
 // What a check says.
@@ -38,6 +49,16 @@ pub fn done(beside: usize, second: usize) -> Numbers
     }
 }
 
+pub fn cause_number(cause: Cause) -> usize
+    ensures { λ r. ⌜ r ≡ causeNumber cause ⌝ }
+{
+    match cause {
+        Cause::Start => 1,
+        Cause::Cut => 2,
+        Cause::Follow => 3,
+    }
+}
+
 pub fn bad_numbers(bad: Bad) -> Numbers
     ensures { λ r. ⌜ r ≡ badNumbers bad ⌝ }
 {
@@ -52,10 +73,10 @@ pub fn bad_numbers(bad: Bad) -> Numbers
             beside: list,
             second: pair,
         },
-        Bad::NotUtf8(place) => Numbers {
+        Bad::NotUtf8(place, cause) => Numbers {
             number: 2,
             beside: place,
-            second: 0,
+            second: cause_number(cause),
         },
     }
 }

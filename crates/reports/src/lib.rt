@@ -3,16 +3,31 @@ use libc::STDOUT_FILENO;
 use refusal::Bad;
 use refusal::Numbers;
 
-// Writes `refused`, the number of the refusal and the number beside it, separated by tabs, and a newline.
-pub fn say_refused(n: Numbers) {
+// Writes `refused`, the number of the refusal and the number beside it, separated by tabs.
+fn say_numbers(n: Numbers) {
     io::write_all(STDOUT_FILENO, b"refused\t");
     io::print_decimal(STDOUT_FILENO, n.number as u64);
     io::write_all(STDOUT_FILENO, b"\t");
     io::print_decimal(STDOUT_FILENO, n.beside as u64);
+}
+
+// The same, as a line.
+pub fn say_refused(n: Numbers) {
+    say_numbers(n);
     io::write_all(STDOUT_FILENO, b"\n");
 }
 
 // The same for a refusal that calls share.
 pub fn say_bad(bad: Bad) {
     say_refused(refusal::bad_numbers(bad));
+}
+
+// The same, and after it, where the text is not UTF-8, a tab and the cause.
+pub fn say_why(bad: Bad) {
+    say_numbers(refusal::bad_numbers(bad));
+    if let Bad::NotUtf8(_, cause) = bad {
+        io::write_all(STDOUT_FILENO, b"\t");
+        io::print_decimal(STDOUT_FILENO, refusal::cause_number(cause) as u64);
+    }
+    io::write_all(STDOUT_FILENO, b"\n");
 }

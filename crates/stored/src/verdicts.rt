@@ -9,14 +9,10 @@ pub fn of_text(input: &[u8], out: &mut [u8]) -> usize
     vectors::put_numbers(out, refusal::verdict_numbers(text::check_text(input)))
 }
 
-// The verdict on a text as one byte: 0, or 1 and the place.
+// The verdict on a text of fewer than 64 bytes as one byte: 0, or the place and 64 for each number of the cause.
 fn as_byte(text: &[u8]) -> u8 {
     let n = refusal::verdict_numbers(text::check_text(text));
-    if n.number == 0 {
-        0
-    } else {
-        (n.beside % 255) as u8 + 1
-    }
+    (n.second % 4 * 64 + n.beside % 64) as u8
 }
 
 // The verdict on a text of at most 8 bytes followed by b.

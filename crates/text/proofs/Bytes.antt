@@ -9,6 +9,8 @@ use native.Mathlib.Omega.{arith}
 use Rattle.basics.specs.Choice.{pick}
 use Rattle.basics.specs.Tests.{within}
 use Rattle.basics.proofs.Choices.{Within, within-true, inside-within, under-within, by-pick}
+use Rattle.refusal.specs.declared.Cause.{Cause}
+use Rattle.refusal.specs.declared.Cause.the-variants.{Cut, Follow}
 use Rattle.text.specs.declared.Decoded.{Decoded}
 use Rattle.text.specs.declared.Decoded.the-variants.{Char, Ill}
 use Rattle.text.specs.declared.Next.{Next}
@@ -16,18 +18,32 @@ use Rattle.text.specs.declared.Next.the-variants.{Byte, Other}
 use Rattle.text.specs.Next.{next, Second, Tail}
 use Rattle.text.specs.Utf8.{byte, value2, value3, value4, two, three, four}
 
-pub next-past : (low high : ℕ) (s : List ℕ) (at : ℕ) → length s ≤ at → Other ≡ next low high (drop at s)
+-- a byte that has to come next: there is none, it lies in the range, or it does not
+module _ (low high : ℕ) (f : ℕ → List ℕ → Decoded) where
+  pub byte-none : byte low high [] f ≡ Ill Cut
+  unfolding byte
+  byte-none = refl
+
+  pub byte-in : (b : ℕ) (s : List ℕ) → within low high b ≡ true → byte low high (b ∷ s) f ≡ f b s
+  unfolding byte
+  byte-in b s w = rw w
+
+  pub byte-out : (b : ℕ) (s : List ℕ) → within low high b ≡ false → byte low high (b ∷ s) f ≡ Ill Follow
+  unfolding byte
+  byte-out b s w = rw w
+
+pub next-past : (low high : ℕ) (s : List ℕ) (at : ℕ) → length s ≤ at → Other Cut ≡ next low high (drop at s)
 unfolding next
 next-past low high s at h = rw (drop-of-length-le s h)
 
 module _ (low high : ℕ) (s : List ℕ) (at b : ℕ) (h : at < length s) (e : b ≡ getD s at 0) where
-  pub next-under : b < low → Other ≡ next low high (drop at s)
+  pub next-under : b < low → Other Follow ≡ next low high (drop at s)
   unfolding next
   next-under l = sym (rw (drop-cons s at 0 h, ← e, under-within low high b l))
 
-  pub next-over : low ≤ b → high < b → Other ≡ next low high (drop at s)
+  pub next-over : low ≤ b → high < b → Other Follow ≡ next low high (drop at s)
   unfolding next
-  next-over l u = sym (rw (drop-cons s at 0 h, ← e) (by-pick (λ (n : Next). n ≡ Other) (within low high b) (Byte b) Other (λ t. absurd (omega (arith, within-true low high b t .most))) (λ _. refl)))
+  next-over l u = sym (rw (drop-cons s at 0 h, ← e) (by-pick (λ (n : Next). n ≡ Other Follow) (within low high b) (Byte b) (Other Follow) (λ t. absurd (omega (arith, within-true low high b t .most))) (λ _. refl)))
 
   pub next-is : low ≤ b → b ≤ high → Byte b ≡ next low high (drop at s)
   unfolding next
@@ -39,7 +55,7 @@ unfolding next
 in-range low high b [] e = let z : _≡_ {A = ℕ} 0 1 = cc in absurd (omega arith)
 in-range low high b (a ∷ s) e = go (within low high a) refl e
   where
-    go : (t : Bool) → within low high a ≡ t → Byte b ≡ pick t (Byte a) Other → Within low high b
+    go : (t : Bool) → within low high a ≡ t → Byte b ≡ pick t (Byte a) (Other Follow) → Within low high b
     go true w e = let i : b ≡ a = cc in rw i (within-true low high a w)
     go false w e = let z : _≡_ {A = ℕ} 0 1 = cc in absurd (omega arith)
 
@@ -51,17 +67,17 @@ second-tail low high s at {b} g e f =
 pub next-tail : (s : List ℕ) (at : ℕ) {b : ℕ} {n : Next} → n ≡ next 0x80 0xBF (drop at s) → n ≡ Byte b → Tail b
 next-tail s at e f = second-tail 0x80 0xBF s at (record { least = omega arith; most = omega arith }) e f
 
--- where the byte is there, what follows decides, from the next position on; else the sequence is ill-formed
+-- where the byte is there, what follows decides, from the next position on; else the sequence is ill-formed for the same cause
 abbrev byteOf : Next → List ℕ → (ℕ → List ℕ → Decoded) → Decoded
 byteOf (Byte b) s f = f b s
-byteOf Other s f = Ill
+byteOf (Other k) s f = Ill k
 
 byte-of : (low high : ℕ) (s : List ℕ) (f : ℕ → List ℕ → Decoded) → byte low high s f ≡ byteOf (next low high s) (drop 1 s) f
 unfolding byte next
 byte-of low high [] f = refl
 byte-of low high (b ∷ s) f = go (within low high b)
   where
-    go : (t : Bool) → pick t (f b s) Ill ≡ byteOf (pick t (Byte b) Other) s f
+    go : (t : Bool) → pick t (f b s) (Ill Follow) ≡ byteOf (pick t (Byte b) (Other Follow)) s f
     go true = refl
     go false = refl
 
@@ -69,20 +85,20 @@ module _ (low high : ℕ) (s : List ℕ) (at : ℕ) {n : Next} (e : n ≡ next l
   byte-is : {b : ℕ} → n ≡ Byte b → byte low high (drop at s) f ≡ f b (drop (at + 1) s)
   byte-is k = byte-of low high (drop at s) f ∙ rw (← e, k, drop-drop 1 at s)
 
-  byte-other : n ≡ Other → byte low high (drop at s) f ≡ Ill
+  byte-other : {x : Cause} → n ≡ Other x → byte low high (drop at s) f ≡ Ill x
   byte-other k = byte-of low high (drop at s) f ∙ rw (← e, k)
 
 -- the rest of a sequence, byte by byte: the second byte, the third, the fourth
 module _ (a low high : ℕ) (s : List ℕ) (at : ℕ) {n₂ : Next} (e₂ : n₂ ≡ next low high (drop at s)) where
-  pub two-ill : n₂ ≡ Other → Ill ≡ two a low high (drop at s)
+  pub two-ill : {x : Cause} → n₂ ≡ Other x → Ill x ≡ two a low high (drop at s)
   unfolding two
   two-ill k = sym (byte-other low high s at e₂ _ k)
 
-  pub three-ill-2 : n₂ ≡ Other → Ill ≡ three a low high (drop at s)
+  pub three-ill-2 : {x : Cause} → n₂ ≡ Other x → Ill x ≡ three a low high (drop at s)
   unfolding three
   three-ill-2 k = sym (byte-other low high s at e₂ _ k)
 
-  pub four-ill-2 : n₂ ≡ Other → Ill ≡ four a low high (drop at s)
+  pub four-ill-2 : {x : Cause} → n₂ ≡ Other x → Ill x ≡ four a low high (drop at s)
   unfolding four
   four-ill-2 k = sym (byte-other low high s at e₂ _ k)
 
@@ -92,11 +108,11 @@ module _ (a low high : ℕ) (s : List ℕ) (at : ℕ) {n₂ : Next} (e₂ : n₂
     two-is e = rw e (sym (byte-is low high s at e₂ _ k₂))
 
     module _ {n₃ : Next} (e₃ : n₃ ≡ next 0x80 0xBF (drop (at + 1) s)) where
-      pub three-ill-3 : n₃ ≡ Other → Ill ≡ three a low high (drop at s)
+      pub three-ill-3 : {x : Cause} → n₃ ≡ Other x → Ill x ≡ three a low high (drop at s)
       unfolding three
       three-ill-3 k = sym (byte-is low high s at e₂ _ k₂ ∙ byte-other 0x80 0xBF s (at + 1) e₃ _ k)
 
-      pub four-ill-3 : n₃ ≡ Other → Ill ≡ four a low high (drop at s)
+      pub four-ill-3 : {x : Cause} → n₃ ≡ Other x → Ill x ≡ four a low high (drop at s)
       unfolding four
       four-ill-3 k = sym (byte-is low high s at e₂ _ k₂ ∙ byte-other 0x80 0xBF s (at + 1) e₃ _ k)
 
@@ -109,7 +125,7 @@ module _ (a low high : ℕ) (s : List ℕ) (at : ℕ) {n₂ : Next} (e₂ : n₂
           e₄' : n₄ ≡ next 0x80 0xBF (drop (at + 1 + 1) s)
           e₄' = let i : at + 1 + 1 ≡ at + 2 = omega arith in rw i e₄
 
-          pub four-ill-4 : n₄ ≡ Other → Ill ≡ four a low high (drop at s)
+          pub four-ill-4 : {x : Cause} → n₄ ≡ Other x → Ill x ≡ four a low high (drop at s)
           unfolding four
           four-ill-4 k = sym (byte-is low high s at e₂ _ k₂ ∙ byte-is 0x80 0xBF s (at + 1) e₃ _ k₃ ∙ byte-other 0x80 0xBF s (at + 1 + 1) e₄' _ k)
 

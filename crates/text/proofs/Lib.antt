@@ -4,6 +4,7 @@ pub mod Views
 pub mod Coding
 pub mod Texts
 pub mod Stops
+pub mod Causes
 pub mod Answers
 pub mod Places
 pub mod Runs

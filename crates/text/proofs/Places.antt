@@ -8,12 +8,13 @@ use lib.Seq.{drop-cons, drop-drop}
 use native.Mathlib.Omega.{arith}
 use native.Mathlib.Numerals.{add-one}
 use Rattle.refusal.specs.declared.Bad.the-variants.{NotUtf8}
+use Rattle.refusal.specs.declared.Cause.{Cause}
 use Rattle.refusal.specs.declared.Verdict.the-variants.{Fine, Refused}
 use Rattle.text.specs.declared.Decoded.{Decoded}
 use Rattle.text.specs.declared.Decoded.the-variants.{Char, End, Ill}
 use Rattle.text.specs.Utf8.{lead, decoded}
 use Rattle.text.specs.Chars.{chars, width, size}
-use Rattle.text.specs.Verdicts.{utf8Verdict}
+use Rattle.text.specs.Verdicts.{causeOf, utf8Verdict}
 use Rattle.text.proofs.Rows.{row-00}
 use Rattle.text.proofs.Coding.{Fact}
 use Rattle.text.proofs.Texts.{stepped, told}
@@ -51,7 +52,7 @@ module _ (s : List ℕ) (at : ℕ) {d : Decoded} (e : d ≡ decoded (drop at s))
   pub end-chars : d ≡ End → chars (drop at s) ≡ []
   end-chars k = stepped (drop at s) (sym e ∙ k)
 
-  pub ill-chars : d ≡ Ill → chars (drop at s) ≡ []
+  pub ill-chars : {x : Cause} → d ≡ Ill x → chars (drop at s) ≡ []
   ill-chars k = stepped (drop at s) (sym e ∙ k)
 
 -- THE CHECK OF A TEXT: characters take the bytes before `at`, and the rest of the text's characters stand from there on
@@ -76,10 +77,11 @@ module _ (s : List ℕ) {at : ℕ} {d : Decoded} (g : Reached s at) (e : d ≡ d
       let v : size (chars s) ≡ length s = omega (arith, g .same, g .room, length-drop at s) in
       sym (rw (eq-eqb (size (chars s)) (length s) v))
 
-  pub reached-ill : d ≡ Ill → Refused (NotUtf8 at) ≡ utf8Verdict s
+  pub reached-ill : {x : Cause} → d ≡ Ill x → Refused (NotUtf8 at x) ≡ utf8Verdict s
   unfolding utf8Verdict
-  reached-ill k =
+  reached-ill {x} k =
       let n : 0 < length (drop at s) = told (drop at s) (sym e ∙ k) in
       let f : size (chars (drop at s)) ≡ 0 = ap size (ill-chars s at e k) in
       let v : size (chars s) ≡ at = omega (arith, g .same) in
-      sym (rw (ne-eqb (size (chars s)) (length s) (λ q. omega (arith, g .room, length-drop at s)), v))
+      let w : causeOf (decoded (drop at s)) ≡ x = ap causeOf (sym e ∙ k) in
+      sym (rw (ne-eqb (size (chars s)) (length s) (λ q. omega (arith, g .room, length-drop at s)), v, w))

@@ -67,7 +67,7 @@ record Shape (s : List ℕ) (w : ℕ) : Type 0 where
 abbrev ShapeOf : List ℕ → Decoded → Type 0
 ShapeOf s (Char c w) = Shape s w
 ShapeOf s End = Unit {0}
-ShapeOf s Ill = Unit {0}
+ShapeOf s (Ill k) = Unit {0}
 
 is-tail : {b : ℕ} → Tail b → within 0x80 0xBF b ≡ true
 is-tail {b} t = inside-within 0x80 0xBF b (t .least) (t .most)

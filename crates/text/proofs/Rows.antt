@@ -7,6 +7,7 @@ use native.Mathlib.Omega.{arith}
 use Rattle.basics.specs.Choice.{pick}
 use Rattle.basics.specs.Tests.{within}
 use Rattle.basics.proofs.Choices.{inside-within, under-within, over-within}
+use Rattle.refusal.specs.declared.Cause.the-variants.{Start}
 use Rattle.text.specs.declared.Decoded.{Decoded}
 use Rattle.text.specs.declared.Decoded.the-variants.{Char, Ill}
 use Rattle.text.specs.Utf8.{two, three, four, lead}
@@ -58,10 +59,10 @@ module _ (a : ℕ) (s : List ℕ) where
   unfolding lead
   row-F4 l h = past 0x00 0x7F a _ _ (omega arith) (omega arith) ∙ past 0xC2 0xDF a _ _ (omega arith) (omega arith) ∙ past 0xE0 0xE0 a _ _ (omega arith) (omega arith) ∙ past 0xE1 0xEC a _ _ (omega arith) (omega arith) ∙ past 0xED 0xED a _ _ (omega arith) (omega arith) ∙ past 0xEE 0xEF a _ _ (omega arith) (omega arith) ∙ past 0xF0 0xF0 a _ _ (omega arith) (omega arith) ∙ past 0xF1 0xF3 a _ _ (omega arith) (omega arith) ∙ found 0xF4 0xF4 a _ _ l h
 
-  pub row-none-80 : 0x80 ≤ a → a ≤ 0xC1 → lead a s ≡ Ill
+  pub row-none-80 : 0x80 ≤ a → a ≤ 0xC1 → lead a s ≡ Ill Start
   unfolding lead
   row-none-80 l h = past 0x00 0x7F a _ _ (omega arith) (omega arith) ∙ before 0xC2 0xDF a _ _ (omega arith) ∙ before 0xE0 0xE0 a _ _ (omega arith) ∙ before 0xE1 0xEC a _ _ (omega arith) ∙ before 0xED 0xED a _ _ (omega arith) ∙ before 0xEE 0xEF a _ _ (omega arith) ∙ before 0xF0 0xF0 a _ _ (omega arith) ∙ before 0xF1 0xF3 a _ _ (omega arith) ∙ before 0xF4 0xF4 a _ _ (omega arith)
 
-  pub row-none-F5 : 0xF5 ≤ a → lead a s ≡ Ill
+  pub row-none-F5 : 0xF5 ≤ a → lead a s ≡ Ill Start
   unfolding lead
   row-none-F5 l = past 0x00 0x7F a _ _ (omega arith) (omega arith) ∙ past 0xC2 0xDF a _ _ (omega arith) (omega arith) ∙ past 0xE0 0xE0 a _ _ (omega arith) (omega arith) ∙ past 0xE1 0xEC a _ _ (omega arith) (omega arith) ∙ past 0xED 0xED a _ _ (omega arith) (omega arith) ∙ past 0xEE 0xEF a _ _ (omega arith) (omega arith) ∙ past 0xF0 0xF0 a _ _ (omega arith) (omega arith) ∙ past 0xF1 0xF3 a _ _ (omega arith) (omega arith) ∙ past 0xF4 0xF4 a _ _ (omega arith) (omega arith)

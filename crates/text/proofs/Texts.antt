@@ -24,14 +24,14 @@ after (suc k) (a ∷ s) = after k s
 abbrev pub Step : List ℕ → Decoded → Type 0
 Step s (Char c w) = chars s ≡ c ∷ chars (drop w s)
 Step s End = chars s ≡ []
-Step s Ill = chars s ≡ []
+Step s (Ill k) = chars s ≡ []
 
 step-cons : (a : ℕ) (s : List ℕ) (d : Decoded) → decoded (a ∷ s) ≡ d → FactOf (a ∷ s) d → Step (a ∷ s) d
 unfolding charsAfter
 step-cons a s (Char c zero) e f = let z : 1 ≤ 0 = f .some in absurd (omega arith)
 step-cons a s (Char c (suc w)) e f = rw (e, charsAfter) (ap (λ (l : List ℕ). c ∷ l) (after w s))
 step-cons a s End e f = rw (e, charsAfter)
-step-cons a s Ill e f = rw (e, charsAfter)
+step-cons a s (Ill k) e f = rw (e, charsAfter)
 
 step : (s : List ℕ) → Step s (decoded s)
 step [] = unfold charsAfter decoded in refl
@@ -51,7 +51,7 @@ module _ (P : List ℕ → Type 0)
     by-one : (n : ℕ) (s : List ℕ) (d : Decoded) → decoded s ≡ d → length s ≤ suc n → ((t : List ℕ) → length t ≤ n → P t) → P s
     by-one n s (Char c w) e l ih = more s c w e (told s e) (stepped s e) (ih (drop w s) (omega (arith, length-drop w s, told s e .some)))
     by-one n s End e l ih = none s (stepped s e)
-    by-one n s Ill e l ih = none s (stepped s e)
+    by-one n s (Ill k) e l ih = none s (stepped s e)
 
     by-length : (n : ℕ) (s : List ℕ) → length s ≤ n → P s
     by-length zero [] l = none [] (unfold charsAfter in refl)

@@ -14,7 +14,7 @@ unfoldable pub charsAfter : (skip : ℕ) → List ℕ → List ℕ
 charsAfter zero [] = []
 charsAfter (suc k) [] = []
 charsAfter (suc k) (a ∷ s) = charsAfter k s
-charsAfter zero (a ∷ s) = elim (decoded (a ∷ s)) [ Char c w ↦ c ∷ charsAfter (pred w) s | End ↦ [] | Ill ↦ [] ]
+charsAfter zero (a ∷ s) = elim (decoded (a ∷ s)) [ Char c w ↦ c ∷ charsAfter (pred w) s | End ↦ [] | Ill cause ↦ [] ]
 
 abbrev pub chars : List ℕ → List ℕ
 chars s = charsAfter 0 s

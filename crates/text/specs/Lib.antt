@@ -3,4 +3,5 @@ pub mod Ascii
 pub mod Next
 pub mod Chars
 pub mod Verdicts
+pub mod Causes
 pub mod Position

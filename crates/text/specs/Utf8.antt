@@ -1,15 +1,17 @@
 -- RFC 3629: the sequence of bytes at the front of a text. Section 4 has the grammar, row by row; section 3 the value of a sequence.
+-- Document 02, W2: where the bytes are no sequence, the row says why. Each row goes byte by byte from the left.
 use Prim.Native.Nat.{ℕ, _+_, _-_, _*_}
 use mathlib.Core.List.{List, [], _∷_}
 use Rattle.basics.specs.Choice.{pick}
 use Rattle.basics.specs.Tests.{within}
+use Rattle.refusal.specs.declared.Cause.the-variants.{Start, Cut, Follow}
 use Rattle.text.specs.declared.Decoded.{Decoded}
 use Rattle.text.specs.declared.Decoded.the-variants.{Char, End, Ill}
 
--- a byte from low to high has to come next; where it does, what follows decides
+-- a byte from low to high has to come next. Where it does, what follows decides; the text may end before it (2), or another byte stand there (3)
 unfoldable pub byte : (low high : ℕ) → List ℕ → (ℕ → List ℕ → Decoded) → Decoded
-byte low high [] follows = Ill
-byte low high (b ∷ s) follows = pick (within low high b) (follows b s) Ill
+byte low high [] follows = Ill Cut
+byte low high (b ∷ s) follows = pick (within low high b) (follows b s) (Ill Follow)
 
 -- UTF8-tail = %x80-BF
 abbrev pub tail : List ℕ → (ℕ → List ℕ → Decoded) → Decoded
@@ -35,7 +37,7 @@ three a low high s = byte low high s (λ b s. tail s (λ c _. Char (value3 a b c
 unfoldable pub four : ℕ → ℕ → ℕ → List ℕ → Decoded
 four a low high s = byte low high s (λ b s. tail s (λ c s. tail s (λ d _. Char (value4 a b c d) 4)))
 
--- section 4: the rows of UTF8-1, UTF8-2, UTF8-3 and UTF8-4 by their first byte; no other byte starts a sequence
+-- section 4: the rows of UTF8-1, UTF8-2, UTF8-3 and UTF8-4 by their first byte; no other byte starts a sequence (1)
 unfoldable pub lead : ℕ → List ℕ → Decoded
 lead a s =
     pick (within 0x00 0x7F a) (Char a 1)
@@ -47,7 +49,7 @@ lead a s =
     (pick (within 0xF0 0xF0 a) (four a 0x90 0xBF s)
     (pick (within 0xF1 0xF3 a) (four a 0x80 0xBF s)
     (pick (within 0xF4 0xF4 a) (four a 0x80 0x8F s)
-    Ill))))))))
+    (Ill Start)))))))))
 
 -- the character at the front of a text
 unfoldable pub decoded : List ℕ → Decoded

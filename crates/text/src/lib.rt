@@ -9,22 +9,23 @@ ghost use Rattle.text.specs.Next.{next, Lead, Second, Tail};
 ghost use Rattle.text.specs.Position.{startsHere};
 ghost use Rattle.text.specs.Verdicts.{tooLong, utf8Verdict, textVerdict};
 use refusal::Bad;
+use refusal::Cause;
 use refusal::Verdict;
 
 // A code point: the number type that stands for 000's `char`. Any number may be handed in where one is taken.
 pub type CodePoint = u32;
 
-// What stands at a position: a character and its bytes, the end of the text, or an ill-formed sequence.
+// What stands at a position: a character and its bytes, the end of the text, or an ill-formed sequence and why it is one.
 pub enum Decoded {
     Char(CodePoint, usize),
     End,
-    Ill,
+    Ill(Cause),
 }
 
-// A byte that had to lie in a range: it does, or there is none that does.
+// A byte that had to lie in a range: it does, or there is none that does, and why.
 enum Next {
     Byte(u32),
-    Other,
+    Other(Cause),
 }
 
 // A byte as a number.
@@ -39,14 +40,14 @@ fn next_byte(text: &[u8], at: usize, low: u32, high: u32) -> Next
     ensures { λ r. ⌜ r ≡ next low high (drop at (now (text .entry))) ⌝ }
 {
     if text.len() <= at {
-        return Next::Other;
+        return Next::Other(Cause::Cut);
     }
     let b = wide(text[at]);
     if b < low {
-        return Next::Other;
+        return Next::Other(Cause::Follow);
     }
     if high < b {
-        return Next::Other;
+        return Next::Other(Cause::Follow);
     }
     Next::Byte(b)
 }
@@ -78,8 +79,9 @@ fn decode_two(text: &[u8], at: usize, a: u32, low: u32, high: u32) -> Decoded
     requires { ⌜ (Lead 0xC0 a) × (Second low high) ⌝ }
     ensures { λ r. ⌜ r ≡ two a low high (drop at (now (text .entry))) ⌝ }
 {
-    let Next::Byte(b) = next_byte(text, at, low, high) else {
-        return Decoded::Ill;
+    let b = match next_byte(text, at, low, high) {
+        Next::Byte(b) => b,
+        Next::Other(cause) => return Decoded::Ill(cause),
     };
     Decoded::Char(join_two(a, b), 2)
 }
@@ -89,11 +91,13 @@ fn decode_three(text: &[u8], at: usize, a: u32, low: u32, high: u32) -> Decoded
     requires { ⌜ (Lead 0xE0 a) × (Second low high) × (at ≤ length (now text)) ⌝ }
     ensures { λ r. ⌜ r ≡ three a low high (drop at (now (text .entry))) ⌝ }
 {
-    let Next::Byte(b) = next_byte(text, at, low, high) else {
-        return Decoded::Ill;
+    let b = match next_byte(text, at, low, high) {
+        Next::Byte(b) => b,
+        Next::Other(cause) => return Decoded::Ill(cause),
     };
-    let Next::Byte(c) = next_byte(text, at + 1, 0x80, 0xBF) else {
-        return Decoded::Ill;
+    let c = match next_byte(text, at + 1, 0x80, 0xBF) {
+        Next::Byte(c) => c,
+        Next::Other(cause) => return Decoded::Ill(cause),
     };
     Decoded::Char(join_three(a, b, c), 3)
 }
@@ -103,14 +107,17 @@ fn decode_four(text: &[u8], at: usize, a: u32, low: u32, high: u32) -> Decoded
     requires { ⌜ (Lead 0xF0 a) × (Second low high) × (at ≤ length (now text)) ⌝ }
     ensures { λ r. ⌜ r ≡ four a low high (drop at (now (text .entry))) ⌝ }
 {
-    let Next::Byte(b) = next_byte(text, at, low, high) else {
-        return Decoded::Ill;
+    let b = match next_byte(text, at, low, high) {
+        Next::Byte(b) => b,
+        Next::Other(cause) => return Decoded::Ill(cause),
     };
-    let Next::Byte(c) = next_byte(text, at + 1, 0x80, 0xBF) else {
-        return Decoded::Ill;
+    let c = match next_byte(text, at + 1, 0x80, 0xBF) {
+        Next::Byte(c) => c,
+        Next::Other(cause) => return Decoded::Ill(cause),
     };
-    let Next::Byte(d) = next_byte(text, at + 2, 0x80, 0xBF) else {
-        return Decoded::Ill;
+    let d = match next_byte(text, at + 2, 0x80, 0xBF) {
+        Next::Byte(d) => d,
+        Next::Other(cause) => return Decoded::Ill(cause),
     };
     Decoded::Char(join_four(a, b, c, d), 4)
 }
@@ -130,7 +137,7 @@ fn decode_lead(text: &[u8], at: usize, a: u32) -> Decoded
         0xF0 => decode_four(text, at, a, 0x90, 0xBF),
         0xF1..=0xF3 => decode_four(text, at, a, 0x80, 0xBF),
         0xF4 => decode_four(text, at, a, 0x80, 0x8F),
-        _ => Decoded::Ill,
+        _ => Decoded::Ill(Cause::Start),
     }
 }
 
@@ -208,12 +215,12 @@ pub fn check_utf8(text: &[u8]) -> Verdict
         match decode(text, at) {
             Decoded::Char(_, w) => at += w,
             Decoded::End => return Verdict::Fine,
-            Decoded::Ill => return Verdict::Refused(Bad::NotUtf8(at)),
+            Decoded::Ill(cause) => return Verdict::Refused(Bad::NotUtf8(at, cause)),
         }
     }
 }
 
-// PUBLIC: whether a text is UTF-8 within the limit; if not, refusal 1, or 2 with the start of the first ill-formed sequence.
+// PUBLIC: whether a text is UTF-8 within the limit; if not, refusal 1, or 2 with the start of the first ill-formed sequence and its cause.
 pub fn check_text(text: &[u8]) -> Verdict
     ensures { λ r. ⌜ r ≡ textVerdict (now (text .entry)) ⌝ }
 {

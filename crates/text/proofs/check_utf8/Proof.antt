@@ -50,8 +50,8 @@ enum-told c = search needs
 returns : tie.Need-returns Inv-loop μ-loop
 returns c = search reached-end
 
-enum-told-2 : tie.Need-enum-told-2 Inv-loop μ-loop
-enum-told-2 c = search needs
+enum-known-cause : tie.Need-enum-known-cause Inv-loop μ-loop
+enum-known-cause c = search needs
 
 returns-2 : tie.Need-returns-2 Inv-loop μ-loop
 returns-2 c = search reached-ill
@@ -74,5 +74,5 @@ check-utf8-spec =
     loop-again-2
     enum-told
     returns
-    enum-told-2
+    enum-known-cause
     returns-2)

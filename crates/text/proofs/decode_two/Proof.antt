@@ -10,8 +10,8 @@ next-byte-requires c κs = search needs
 enum-known-b : tie.Need-enum-known-b
 enum-known-b c = search needs
 
-enum-told : tie.Need-enum-told
-enum-told c = search needs
+enum-known-cause : tie.Need-enum-known-cause
+enum-known-cause c = search needs
 
 returns : tie.Need-returns
 returns c = search two-ill
@@ -25,4 +25,4 @@ returns-2 c = search two-is
 pub decode-two-spec : {M : Type 1} → statement M
 decode-two-spec =
     tie.close
-    (tie.spec next-byte-requires enum-known-b enum-told returns join-two-requires returns-2)
+    (tie.spec next-byte-requires enum-known-b enum-known-cause returns join-two-requires returns-2)
