@@ -18,7 +18,10 @@ static const uint32_t none[1];   /* an empty list has a pointer too */
 static int explain(struct lovemudarn_answer a) {
     switch (a.number) {
     case LOVEMUDARN_NOT_UTF8:
-        fprintf(stderr, "refused 2: the text is not UTF-8 from byte %zu on\n", a.beside);
+        fprintf(stderr, "refused 2: the text is not UTF-8 from byte %zu on: %s\n", a.beside,
+                a.second == LOVEMUDARN_CAUSE_START ? "no character begins with that byte"
+                : a.second == LOVEMUDARN_CAUSE_CUT ? "it ends inside a character"
+                                                   : "a later byte of the character is wrong");
         break;
     case LOVEMUDARN_BROKEN_TOKEN:
         fprintf(stderr, "refused 6: the literal or comment that begins at byte %zu does not end\n", a.beside);

@@ -36,7 +36,7 @@ extern "C" {
 
 #define LOVEMUDARN_DONE 0u         /* as the call says */
 #define LOVEMUDARN_TOO_LONG 1u     /* the text has more than 4,294,967,295 bytes; beside: 0 */
-#define LOVEMUDARN_NOT_UTF8 2u     /* the text is not UTF-8; beside: the start of the first ill-formed sequence */
+#define LOVEMUDARN_NOT_UTF8 2u     /* the text is not UTF-8; beside: the start of the first ill-formed sequence; second: the cause */
 #define LOVEMUDARN_BAD_LIST 3u     /* a list breaks a rule; beside: the list (0 starts, 1 continues, 2 emoji); second: the index of the pair, of a half
                                       pair too; 2,048 where there are more pairs than that */
 #define LOVEMUDARN_BAD_POSITION 4u /* the position is past the end of the text or inside a character; beside: the position */
@@ -45,6 +45,13 @@ extern "C" {
                                       that does not end; beside: the start of the first */
 #define LOVEMUDARN_SHORT_BUFFER 7u /* the buffer is shorter than the key; beside: the bytes of the key */
 #define LOVEMUDARN_BAD_PREFIX 8u   /* the raw check's prefix is not 1 with r, or 2 with br or cr; beside: 0 */
+
+/* The cause beside LOVEMUDARN_NOT_UTF8. The bytes of the sequence are judged from the left: the first that is wrong decides, or the end of the text where it
+ * comes before that. */
+#define LOVEMUDARN_CAUSE_START 1u  /* the first byte cannot start a sequence: 80 to C1, F5 to FF */
+#define LOVEMUDARN_CAUSE_CUT 2u    /* the text ends inside the sequence */
+#define LOVEMUDARN_CAUSE_FOLLOW 3u /* a following byte is wrong: it is not 80 to BF; or it is the second, and makes an overlong form (after E0, F0), a surrogate
+                                      (ED) or a value past U+10FFFF (F4) */
 
 #define LOVEMUDARN_LIST_STARTS 0u
 #define LOVEMUDARN_LIST_CONTINUES 1u

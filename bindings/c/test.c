@@ -1,4 +1,4 @@
-/* Calls every export, and compares what comes back with what document 01 and the Rust say: every number below is written by hand.
+/* Calls every export, and compares what comes back with what documents 01 and 02 and the Rust say: every number below is written by hand.
  * It is built without a header of the system; the last line says how many checks there were, and how many failed. */
 #include "lovemudarn.h"
 
@@ -8,12 +8,15 @@ extern int mprotect(void *, size_t, int);
 
 static unsigned long checks, failed;
 
+/* the text that a check is about, where the same is checked of many; else nothing */
+static const char *of = "";
+
 /* one check: two numbers are the same */
 static void same(const char *what, const char *part, unsigned long is, unsigned long right) {
     checks += 1;
     if (is != right) {
         failed += 1;
-        printf("FAILED: %s: %s is %lu, not %lu\n", what, part, is, right);
+        printf("FAILED: %s%s: %s is %lu, not %lu\n", of, what, part, is, right);
     }
 }
 
@@ -46,9 +49,9 @@ static void answer(const char *what, struct lovemudarn_answer a, unsigned long n
 static void test_check(void) {
     answer("check: nothing", lovemudarn_check(TEXT(""), NO_LISTS), LOVEMUDARN_DONE, 0, 0);
     answer("check: a text and lists", lovemudarn_check(TEXT("caf\303\251"), LIST(letters), LIST(letters), LIST(faces)), LOVEMUDARN_DONE, 0, 0);
-    answer("check: a surrogate in the text", lovemudarn_check(TEXT("caf\303\251 \355\240\200"), NO_LISTS), LOVEMUDARN_NOT_UTF8, 6, 0);
-    answer("check: an overlong form", lovemudarn_check(TEXT("a\300\200"), NO_LISTS), LOVEMUDARN_NOT_UTF8, 1, 0);
-    answer("check: a cut sequence", lovemudarn_check(TEXT("a\342\202"), NO_LISTS), LOVEMUDARN_NOT_UTF8, 1, 0);
+    answer("check: a surrogate in the text", lovemudarn_check(TEXT("caf\303\251 \355\240\200"), NO_LISTS), LOVEMUDARN_NOT_UTF8, 6, 3);
+    answer("check: a byte that starts nothing", lovemudarn_check(TEXT("a\300\200"), NO_LISTS), LOVEMUDARN_NOT_UTF8, 1, 1);
+    answer("check: a cut sequence", lovemudarn_check(TEXT("a\342\202"), NO_LISTS), LOVEMUDARN_NOT_UTF8, 1, 2);
     answer("check: below 0x80", lovemudarn_check(TEXT("a"), LIST(low), NONE, NONE), LOVEMUDARN_BAD_LIST, LOVEMUDARN_LIST_STARTS, 0);
     answer("check: a half pair", lovemudarn_check(TEXT("a"), NONE, LIST(half), NONE), LOVEMUDARN_BAD_LIST, LOVEMUDARN_LIST_CONTINUES, 1);
     answer("check: not above", lovemudarn_check(TEXT("a"), NONE, NONE, LIST(meeting)), LOVEMUDARN_BAD_LIST, LOVEMUDARN_LIST_EMOJI, 1);
@@ -195,7 +198,7 @@ static void test_token(void) {
     no_token("past the end", lovemudarn_token(TEXT("a+1"), NO_LISTS, 4, false), LOVEMUDARN_BAD_POSITION, 4, 0);
     no_token("inside a character", lovemudarn_token(TEXT("\303\251"), NO_LISTS, 1, true), LOVEMUDARN_BAD_POSITION, 1, 0);
     no_token("the last position", lovemudarn_token(TEXT(""), NO_LISTS, (size_t)-1, false), LOVEMUDARN_BAD_POSITION, (size_t)-1, 0);
-    no_token("2 before 4", lovemudarn_token(TEXT("a\377"), NO_LISTS, 9, false), LOVEMUDARN_NOT_UTF8, 1, 0);
+    no_token("2 before 4", lovemudarn_token(TEXT("a\377"), NO_LISTS, 9, false), LOVEMUDARN_NOT_UTF8, 1, LOVEMUDARN_CAUSE_START);
     no_token("3 before 2", lovemudarn_token(TEXT("a\377"), NONE, NONE, LIST(meeting), 0, false), LOVEMUDARN_BAD_LIST, LOVEMUDARN_LIST_EMOJI, 1);
 }
 
@@ -231,8 +234,8 @@ static void test_tokens(void) {
     holds("a+1, no slot", sum, 0);
     answer("nothing, no slot", lovemudarn_tokens(TEXT(""), NO_LISTS, true, run, 0), LOVEMUDARN_DONE, 0, 0);
     holds("nothing, no slot", sum, 0);
-    answer("ill-formed, no slot", lovemudarn_tokens(TEXT("a+\377"), NO_LISTS, false, run, 0), LOVEMUDARN_NOT_UTF8, 2, 0);
-    answer("ill-formed", lovemudarn_tokens(TEXT("a+\377"), NO_LISTS, false, run, 48), LOVEMUDARN_NOT_UTF8, 2, 0);
+    answer("ill-formed, no slot", lovemudarn_tokens(TEXT("a+\377"), NO_LISTS, false, run, 0), LOVEMUDARN_NOT_UTF8, 2, LOVEMUDARN_CAUSE_START);
+    answer("ill-formed", lovemudarn_tokens(TEXT("a+\377"), NO_LISTS, false, run, 48), LOVEMUDARN_NOT_UTF8, 2, LOVEMUDARN_CAUSE_START);
     holds("ill-formed", sum, 0);
     answer("a bad list", lovemudarn_tokens(TEXT("a+\377"), NONE, LIST(low), NONE, false, run, 48), LOVEMUDARN_BAD_LIST, LOVEMUDARN_LIST_CONTINUES, 0);
     holds("a bad list", sum, 0);
@@ -306,8 +309,9 @@ static void test_tokens_from(void) {
     RAN("from: nothing", lovemudarn_tokens_from(TEXT(""), NO_LISTS, 0, false, run, 48), 0, 0, false);
     NO_RUN("from: past the end", lovemudarn_tokens_from(TEXT("a+1"), NO_LISTS, 4, true, run, 48), LOVEMUDARN_BAD_POSITION, 4, 0);
     NO_RUN("from: inside a character", lovemudarn_tokens_from(TEXT("\303\251"), NO_LISTS, 1, true, run, 48), LOVEMUDARN_BAD_POSITION, 1, 0);
-    NO_RUN("from: 2 before 4", lovemudarn_tokens_from(TEXT("a+\377"), NO_LISTS, 9, true, run, 48), LOVEMUDARN_NOT_UTF8, 2, 0);
-    NO_RUN("from: ill-formed past the slots", lovemudarn_tokens_from(TEXT("a+\377"), NO_LISTS, 0, true, run, 4), LOVEMUDARN_NOT_UTF8, 2, 0);
+    NO_RUN("from: 2 before 4", lovemudarn_tokens_from(TEXT("a+\377"), NO_LISTS, 9, true, run, 48), LOVEMUDARN_NOT_UTF8, 2, LOVEMUDARN_CAUSE_START);
+    NO_RUN("from: ill-formed past the slots", lovemudarn_tokens_from(TEXT("a+\377"), NO_LISTS, 0, true, run, 4), LOVEMUDARN_NOT_UTF8, 2,
+           LOVEMUDARN_CAUSE_START);
     NO_RUN("from: 3 before 2", lovemudarn_tokens_from(TEXT("a+\377"), NONE, LIST(half), NONE, 0, true, run, 48), LOVEMUDARN_BAD_LIST,
            LOVEMUDARN_LIST_CONTINUES, 1);
     holds("from: where nothing is written", some, 0);
@@ -334,8 +338,8 @@ static void key_holds(const char *what, const char *right, size_t count) {
     (fill_out(), answer(s, lovemudarn_key(TEXT(s), NO_LISTS, out, 32), LOVEMUDARN_DONE, sizeof(right) - 1, 0), \
      key_holds(s, right, sizeof(right) - 1))
 /* a refusal, with a buffer of n bytes */
-#define NO_KEY(s, room, number, beside) \
-    (fill_out(), answer(s, lovemudarn_key(TEXT(s), NO_LISTS, out, room), number, beside, 0), key_holds(s, "", 0))
+#define NO_KEY(s, room, number, beside, second) \
+    (fill_out(), answer(s, lovemudarn_key(TEXT(s), NO_LISTS, out, room), number, beside, second), key_holds(s, "", 0))
 
 static void test_key(void) {
     KEY("/* a */x = 1; // b\n", "\nx\n=\n1;\n");
@@ -348,13 +352,13 @@ static void test_key(void) {
     fill_out();
     answer("just room", lovemudarn_key(TEXT("/* a */x = 1; // b\n"), NO_LISTS, out, 8), LOVEMUDARN_DONE, 8, 0);
     key_holds("just room", "\nx\n=\n1;\n", 8);
-    NO_KEY("/* a */x = 1; // b\n", 7, LOVEMUDARN_SHORT_BUFFER, 8);
-    NO_KEY("/* a */x = 1; // b\n", 0, LOVEMUDARN_SHORT_BUFFER, 8);
-    NO_KEY("'/**/'", 32, LOVEMUDARN_BROKEN_TOKEN, 0);
-    NO_KEY("x = /*/*/", 32, LOVEMUDARN_BROKEN_TOKEN, 4);
-    NO_KEY("x r##~x \"", 32, LOVEMUDARN_BROKEN_TOKEN, 2);
-    NO_KEY("x \"a", 0, LOVEMUDARN_BROKEN_TOKEN, 2);
-    NO_KEY("x \"a\377", 32, LOVEMUDARN_NOT_UTF8, 4);
+    NO_KEY("/* a */x = 1; // b\n", 7, LOVEMUDARN_SHORT_BUFFER, 8, 0);
+    NO_KEY("/* a */x = 1; // b\n", 0, LOVEMUDARN_SHORT_BUFFER, 8, 0);
+    NO_KEY("'/**/'", 32, LOVEMUDARN_BROKEN_TOKEN, 0, 0);
+    NO_KEY("x = /*/*/", 32, LOVEMUDARN_BROKEN_TOKEN, 4, 0);
+    NO_KEY("x r##~x \"", 32, LOVEMUDARN_BROKEN_TOKEN, 2, 0);
+    NO_KEY("x \"a", 0, LOVEMUDARN_BROKEN_TOKEN, 2, 0);
+    NO_KEY("x \"a\377", 32, LOVEMUDARN_NOT_UTF8, 4, LOVEMUDARN_CAUSE_START);
     fill_out();
     answer("a bad list", lovemudarn_key(TEXT("x \"a\377"), LIST(half), NONE, NONE, out, 32), LOVEMUDARN_BAD_LIST, LOVEMUDARN_LIST_STARTS, 1);
     key_holds("a bad list", "", 0);
@@ -368,7 +372,7 @@ static void test_is_ident(void) {
     answer("is_ident: a letter of no list", lovemudarn_is_ident(TEXT("\303\251"), NONE, LIST(letters)), LOVEMUDARN_DONE, 0, 0);
     answer("is_ident: a letter of the list", lovemudarn_is_ident(TEXT("\303\251"), LIST(letters), NONE), LOVEMUDARN_DONE, 1, 0);
     answer("is_ident: a bad list", lovemudarn_is_ident(TEXT("\377"), NONE, LIST(low)), LOVEMUDARN_BAD_LIST, LOVEMUDARN_LIST_CONTINUES, 0);
-    answer("is_ident: ill-formed", lovemudarn_is_ident(TEXT("1\377"), NONE, NONE), LOVEMUDARN_NOT_UTF8, 1, 0);
+    answer("is_ident: ill-formed", lovemudarn_is_ident(TEXT("1\377"), NONE, NONE), LOVEMUDARN_NOT_UTF8, 1, LOVEMUDARN_CAUSE_START);
 }
 
 static void test_strip_shebang(void) {
@@ -379,7 +383,7 @@ static void test_strip_shebang(void) {
     answer("an attribute after trivia", lovemudarn_strip_shebang(TEXT("#! /* a */ // b\n [allow]\n")), LOVEMUDARN_DONE, 0, 0);
     answer("no shebang", lovemudarn_strip_shebang(TEXT(" #!/bin/sh\n")), LOVEMUDARN_DONE, 0, 0);
     answer("nothing", lovemudarn_strip_shebang(TEXT("")), LOVEMUDARN_DONE, 0, 0);
-    answer("ill-formed", lovemudarn_strip_shebang(TEXT("#!\nx\377")), LOVEMUDARN_NOT_UTF8, 4, 0);
+    answer("ill-formed", lovemudarn_strip_shebang(TEXT("#!\nx\377")), LOVEMUDARN_NOT_UTF8, 4, LOVEMUDARN_CAUSE_START);
 }
 
 static void raw(const char *what, struct lovemudarn_raw_str_answer a, unsigned long number, unsigned long beside, unsigned long second,
@@ -417,7 +421,7 @@ static void test_validate_raw_str(void) {
     raw("another letter", lovemudarn_validate_raw_str(TEXT("xr\"a\""), 2), LOVEMUDARN_BAD_PREFIX, 0, 0, 0, 0, 0, false, 0);
     raw("no prefix", lovemudarn_validate_raw_str(TEXT("r\"a\""), 0), LOVEMUDARN_BAD_PREFIX, 0, 0, 0, 0, 0, false, 0);
     raw("nothing", lovemudarn_validate_raw_str(TEXT(""), 1), LOVEMUDARN_BAD_PREFIX, 0, 0, 0, 0, 0, false, 0);
-    raw("2 before 8", lovemudarn_validate_raw_str(TEXT("x\377"), 3), LOVEMUDARN_NOT_UTF8, 1, 0, 0, 0, 0, false, 0);
+    raw("2 before 8", lovemudarn_validate_raw_str(TEXT("x\377"), 3), LOVEMUDARN_NOT_UTF8, 1, LOVEMUDARN_CAUSE_START, 0, 0, 0, false, 0);
 }
 
 static void guarded(const char *what, struct lovemudarn_guarded_str_answer a, unsigned long number, unsigned long beside, unsigned long second,
@@ -441,7 +445,7 @@ static void test_guarded(void) {
     guarded("none at the end", lovemudarn_guarded(TEXT("##"), NONE, NONE, 2), LOVEMUDARN_DONE, 2, 0, 0, false, 0);
     guarded("past the end", lovemudarn_guarded(TEXT("##"), NONE, NONE, 3), LOVEMUDARN_BAD_POSITION, 3, 0, 0, false, 0);
     guarded("inside a character", lovemudarn_guarded(TEXT("\303\251"), NONE, NONE, 1), LOVEMUDARN_BAD_POSITION, 1, 0, 0, false, 0);
-    guarded("2 before 4", lovemudarn_guarded(TEXT("#\377"), NONE, NONE, 9), LOVEMUDARN_NOT_UTF8, 1, 0, 0, false, 0);
+    guarded("2 before 4", lovemudarn_guarded(TEXT("#\377"), NONE, NONE, 9), LOVEMUDARN_NOT_UTF8, 1, LOVEMUDARN_CAUSE_START, 0, false, 0);
     guarded("a bad list", lovemudarn_guarded(TEXT("#\377"), NONE, LIST(half), 9), LOVEMUDARN_BAD_LIST, LOVEMUDARN_LIST_CONTINUES, 1, 0, false, 0);
 }
 
@@ -470,6 +474,103 @@ static void test_classes(void) {
     answer("is_emoji_char: not listed", lovemudarn_is_emoji_char(0x1F650, LIST(faces)), LOVEMUDARN_DONE, 0, 0);
     answer("is_emoji_char: below 0x80", lovemudarn_is_emoji_char('#', LIST(faces)), LOVEMUDARN_DONE, 0, 0);
     answer("is_emoji_char: a bad list", lovemudarn_is_emoji_char(0x1F64F, LIST(meeting)), LOVEMUDARN_BAD_LIST, LOVEMUDARN_LIST_EMOJI, 1);
+}
+
+/* Texts that are not UTF-8: where the first ill-formed sequence starts, and the cause. */
+static const struct {
+    const char *bytes;
+    const uint8_t *text;
+    size_t len, at, cause;
+} ill[] = {
+    /* a first byte that starts nothing, whatever comes after it: 80 to C1, F5 to FF */
+    {"80", TEXT("\200"), 0, LOVEMUDARN_CAUSE_START},
+    {"BF 80", TEXT("\277\200"), 0, LOVEMUDARN_CAUSE_START},
+    {"C0", TEXT("\300"), 0, LOVEMUDARN_CAUSE_START},
+    {"C0 80", TEXT("\300\200"), 0, LOVEMUDARN_CAUSE_START},
+    {"C1 BF", TEXT("\301\277"), 0, LOVEMUDARN_CAUSE_START},
+    {"F5 80 80 80", TEXT("\365\200\200\200"), 0, LOVEMUDARN_CAUSE_START},
+    {"FF", TEXT("\377"), 0, LOVEMUDARN_CAUSE_START},
+    {"FF, then good", TEXT("\377\303\251"), 0, LOVEMUDARN_CAUSE_START},
+    {"good, then A9", TEXT("a\303\251\251"), 3, LOVEMUDARN_CAUSE_START},
+    {"the first of two: FE", TEXT("a\376 \342\202"), 1, LOVEMUDARN_CAUSE_START},
+    /* the end where every byte was right */
+    {"C2", TEXT("\302"), 0, LOVEMUDARN_CAUSE_CUT},
+    {"DF", TEXT("\337"), 0, LOVEMUDARN_CAUSE_CUT},
+    {"E0", TEXT("\340"), 0, LOVEMUDARN_CAUSE_CUT},
+    {"E0 A0", TEXT("\340\240"), 0, LOVEMUDARN_CAUSE_CUT},
+    {"E2 82", TEXT("\342\202"), 0, LOVEMUDARN_CAUSE_CUT},
+    {"ED 9F", TEXT("\355\237"), 0, LOVEMUDARN_CAUSE_CUT},
+    {"EF BF", TEXT("\357\277"), 0, LOVEMUDARN_CAUSE_CUT},
+    {"F0", TEXT("\360"), 0, LOVEMUDARN_CAUSE_CUT},
+    {"F0 90", TEXT("\360\220"), 0, LOVEMUDARN_CAUSE_CUT},
+    {"F0 90 80", TEXT("\360\220\200"), 0, LOVEMUDARN_CAUSE_CUT},
+    {"F3 BF BF", TEXT("\363\277\277"), 0, LOVEMUDARN_CAUSE_CUT},
+    {"F4 8F", TEXT("\364\217"), 0, LOVEMUDARN_CAUSE_CUT},
+    {"good, then F0 9F 98", TEXT("x = \303\251; \360\237\230"), 8, LOVEMUDARN_CAUSE_CUT},
+    /* a second byte that is wrong, and more bytes after it or the end */
+    {"C2 28", TEXT("\302("), 0, LOVEMUDARN_CAUSE_FOLLOW},
+    {"DF C0", TEXT("\337\300"), 0, LOVEMUDARN_CAUSE_FOLLOW},
+    {"E0 80", TEXT("\340\200"), 0, LOVEMUDARN_CAUSE_FOLLOW},
+    {"E0 9F BF", TEXT("\340\237\277"), 0, LOVEMUDARN_CAUSE_FOLLOW},
+    {"E2 28", TEXT("\342("), 0, LOVEMUDARN_CAUSE_FOLLOW},
+    {"E2 C2", TEXT("\342\302"), 0, LOVEMUDARN_CAUSE_FOLLOW},
+    {"E2 FF", TEXT("\342\377"), 0, LOVEMUDARN_CAUSE_FOLLOW},
+    {"ED A0", TEXT("\355\240"), 0, LOVEMUDARN_CAUSE_FOLLOW},
+    {"ED A0 80", TEXT("\355\240\200"), 0, LOVEMUDARN_CAUSE_FOLLOW},
+    {"F0 8F", TEXT("\360\217"), 0, LOVEMUDARN_CAUSE_FOLLOW},
+    {"F0 80 80 80", TEXT("\360\200\200\200"), 0, LOVEMUDARN_CAUSE_FOLLOW},
+    {"F4 90", TEXT("\364\220"), 0, LOVEMUDARN_CAUSE_FOLLOW},
+    {"F4 90 80 80", TEXT("\364\220\200\200"), 0, LOVEMUDARN_CAUSE_FOLLOW},
+    /* a third, and a fourth */
+    {"E2 82 28", TEXT("\342\202("), 0, LOVEMUDARN_CAUSE_FOLLOW},
+    {"E2 82 C0", TEXT("\342\202\300"), 0, LOVEMUDARN_CAUSE_FOLLOW},
+    {"E2 82 00", TEXT("\342\202\0"), 0, LOVEMUDARN_CAUSE_FOLLOW},
+    {"F0 90 7F", TEXT("\360\220\177"), 0, LOVEMUDARN_CAUSE_FOLLOW},
+    {"F0 90 80 C0", TEXT("\360\220\200\300"), 0, LOVEMUDARN_CAUSE_FOLLOW},
+    {"good, then E2 82, then good", TEXT("a\303\251\342\202b"), 3, LOVEMUDARN_CAUSE_FOLLOW},
+    {"the first of two: E2 28", TEXT("a\342(\377"), 1, LOVEMUDARN_CAUSE_FOLLOW},
+    /* in what a call looks for: a raw string, a string after a hash, a shebang, a comment that does not end */
+    {"a raw string with FF", TEXT("r\"\377\""), 2, LOVEMUDARN_CAUSE_START},
+    {"a raw string with E2 82", TEXT("r\"\342\202"), 2, LOVEMUDARN_CAUSE_CUT},
+    {"a raw string with E2 22", TEXT("r\"\342\""), 2, LOVEMUDARN_CAUSE_FOLLOW},
+    {"after a hash, FF", TEXT("#\"\377\""), 2, LOVEMUDARN_CAUSE_START},
+    {"after a hash, E2 82", TEXT("#\"\342\202"), 2, LOVEMUDARN_CAUSE_CUT},
+    {"after a hash, E2 22", TEXT("#\"\342\""), 2, LOVEMUDARN_CAUSE_FOLLOW},
+    {"a shebang with FF", TEXT("#!\377\n"), 2, LOVEMUDARN_CAUSE_START},
+    {"a shebang with E2 82", TEXT("#!\342\202"), 2, LOVEMUDARN_CAUSE_CUT},
+    {"a shebang with E2 0A", TEXT("#!\342\n"), 2, LOVEMUDARN_CAUSE_FOLLOW},
+    {"a comment with FF", TEXT("/*\377"), 2, LOVEMUDARN_CAUSE_START},
+    {"a comment with E2 82", TEXT("/*\342\202"), 2, LOVEMUDARN_CAUSE_CUT},
+    {"a comment with E2 2A", TEXT("/*\342*/"), 2, LOVEMUDARN_CAUSE_FOLLOW},
+};
+
+/* Every call that reads a text says the same of each: at its front and past its end, with room and without. */
+static void test_not_utf8(void) {
+    same("the causes", "the first", LOVEMUDARN_CAUSE_START, 1);
+    same("the causes", "the second", LOVEMUDARN_CAUSE_CUT, 2);
+    same("the causes", "the third", LOVEMUDARN_CAUSE_FOLLOW, 3);
+    fill_run();
+    fill_out();
+    for (size_t i = 0; i < sizeof ill / sizeof ill[0]; i += 1) {
+        const uint8_t *text = ill[i].text;
+        size_t len = ill[i].len, at = ill[i].at, cause = ill[i].cause;
+        of = ill[i].bytes;
+        answer(": check", lovemudarn_check(text, len, NO_LISTS), LOVEMUDARN_NOT_UTF8, at, cause);
+        answer(": is_ident", lovemudarn_is_ident(text, len, NONE, NONE), LOVEMUDARN_NOT_UTF8, at, cause);
+        answer(": strip_shebang", lovemudarn_strip_shebang(text, len), LOVEMUDARN_NOT_UTF8, at, cause);
+        for (size_t far = 0; far < 2; far += 1) {
+            size_t from = far ? len + 1 : 0;
+            no_token(": token", lovemudarn_token(text, len, NO_LISTS, from, true), LOVEMUDARN_NOT_UTF8, at, cause);
+            answer(": tokens", lovemudarn_tokens(text, len, NO_LISTS, true, run, far ? 0 : 48), LOVEMUDARN_NOT_UTF8, at, cause);
+            NO_RUN(": tokens_from", lovemudarn_tokens_from(text, len, NO_LISTS, from, true, run, 48), LOVEMUDARN_NOT_UTF8, at, cause);
+            answer(": key", lovemudarn_key(text, len, NO_LISTS, out, far ? 0 : 32), LOVEMUDARN_NOT_UTF8, at, cause);
+            raw(": validate_raw_str", lovemudarn_validate_raw_str(text, len, 1 + far), LOVEMUDARN_NOT_UTF8, at, cause, 0, 0, 0, false, 0);
+            guarded(": guarded", lovemudarn_guarded(text, len, NONE, NONE, from), LOVEMUDARN_NOT_UTF8, at, cause, 0, false, 0);
+        }
+        holds(": what is written", some, 0);
+        key_holds(": what is written", "", 0);
+    }
+    of = "";
 }
 
 /* A text that is one byte too long. Its first byte is ill-formed: 1 comes before 2, and no other byte is read, nor could be: there is no memory after
@@ -509,6 +610,7 @@ int main(void) {
     test_strip_shebang();
     test_validate_raw_str();
     test_guarded();
+    test_not_utf8();
     test_classes();
     printf("%lu checks, %lu failed\n", checks, failed);
     return failed != 0;
