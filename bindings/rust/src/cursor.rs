@@ -68,9 +68,9 @@ impl<'a> Cursor<'a> {
         let bytes = text.as_ref();
         let mut block = Vec::new();
         let filled = fill(bytes, lists, 0, frontmatter, SMALL, &mut block)?;
-        // The archive has found this already; here it is found again for the type's sake.
-        let text = std::str::from_utf8(bytes)
-            .map_err(|error| Refusal::NotUtf8 { at: error.valid_up_to() })?;
+        // The archive has found that this is UTF-8, or refused it; here it is found again for the type's
+        // sake. Only the archive says where and why a text is not.
+        let text = std::str::from_utf8(bytes).map_err(|_| FOREIGN)?;
         Ok(Cursor {
             text,
             lists: *lists,

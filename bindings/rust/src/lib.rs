@@ -38,7 +38,7 @@ pub use kinds::{
     Base, DocStyle, FrontmatterAllowed, GuardedStr, LiteralKind, RawStrError, Token, TokenKind,
 };
 pub use lists::{Lists, needs_lists};
-pub use refusal::{ListName, Refusal};
+pub use refusal::{Cause, ListName, Refusal};
 
 // Every unsafe block below is one call of the archive, for the same reason: each pointer with its
 // count is one slice that is borrowed as long as the call runs, shared where it goes in as `*const` and

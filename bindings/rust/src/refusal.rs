@@ -14,6 +14,50 @@ pub enum ListName {
     Emoji,
 }
 
+/// Why bytes are not UTF-8. The bytes of a sequence are judged from the left: the first that is wrong
+/// decides, or the end of the text where it comes before that.
+#[derive(Clone, Copy, Debug, PartialEq, Eq, Hash)]
+pub enum Cause {
+    /// 1: the first byte cannot start a sequence (80 to C1, F5 to FF).
+    Start,
+    /// 2: the text ends inside the sequence.
+    Cut,
+    /// 3: a following byte is wrong. It is not 80 to BF; or it is the second, and makes an overlong form
+    /// (after E0, F0), a surrogate (ED) or a value past U+10FFFF (F4).
+    Follow,
+}
+
+impl Cause {
+    /// The cause's number, in the order above.
+    pub fn number(self) -> u32 {
+        match self {
+            Cause::Start => 1,
+            Cause::Cut => 2,
+            Cause::Follow => 3,
+        }
+    }
+
+    /// The cause of a number of the archive.
+    fn of(number: usize) -> Option<Cause> {
+        match number {
+            1 => Some(Cause::Start),
+            2 => Some(Cause::Cut),
+            3 => Some(Cause::Follow),
+            _ => None,
+        }
+    }
+}
+
+impl fmt::Display for Cause {
+    fn fmt(&self, f: &mut fmt::Formatter<'_>) -> fmt::Result {
+        f.write_str(match self {
+            Cause::Start => "no character begins with this byte",
+            Cause::Cut => "the text ends inside a character",
+            Cause::Follow => "a character begins, and a later byte of it is wrong",
+        })
+    }
+}
+
 /// Why a call gave no answer. Where it did not, nothing was written to a lent buffer.
 #[derive(Clone, Copy, Debug, PartialEq, Eq, Hash)]
 #[non_exhaustive]
@@ -24,6 +68,8 @@ pub enum Refusal {
     NotUtf8 {
         /// Where the first ill-formed sequence starts.
         at: usize,
+        /// Why it is ill-formed.
+        cause: Cause,
     },
     /// 3: a list breaks a rule.
     List {
@@ -85,7 +131,17 @@ impl Refusal {
     /// The place in the text, in bytes from its beginning, where the refusal names one (2, 4, 6).
     pub fn place(self) -> Option<usize> {
         match self {
-            Refusal::NotUtf8 { at } | Refusal::Position { at } | Refusal::Broken { at } => Some(at),
+            Refusal::NotUtf8 { at, .. } | Refusal::Position { at } | Refusal::Broken { at } => {
+                Some(at)
+            }
+            _ => None,
+        }
+    }
+
+    /// Why the bytes at that place are not UTF-8 (2).
+    pub fn cause(self) -> Option<Cause> {
+        match self {
+            Refusal::NotUtf8 { cause, .. } => Some(cause),
             _ => None,
         }
     }
@@ -103,7 +159,10 @@ impl Refusal {
         let unknown = Refusal::Unknown { number, beside, second };
         match number {
             1 => Refusal::TooLong,
-            2 => Refusal::NotUtf8 { at: beside },
+            2 => match Cause::of(second) {
+                Some(cause) => Refusal::NotUtf8 { at: beside, cause },
+                None => unknown,
+            },
             3 => match beside {
                 0 => Refusal::List { list: ListName::IdStart, pair: second },
                 1 => Refusal::List { list: ListName::IdContinue, pair: second },
@@ -127,11 +186,18 @@ impl fmt::Display for Refusal {
             Refusal::TooLong => {
                 write!(f, "the text is longer than {} bytes; split it", u32::MAX)
             }
-            Refusal::NotUtf8 { at } => write!(
-                f,
-                "the text is not UTF-8: the bytes from byte {at} on (counted from 0) are no character; \
-                 save the file as UTF-8"
-            ),
+            Refusal::NotUtf8 { at, cause } => {
+                let advice = match cause {
+                    Cause::Start | Cause::Follow => {
+                        "the file may be in another encoding, or damaged: save it as UTF-8"
+                    }
+                    Cause::Cut => "the file may be cut off: fetch it again",
+                };
+                write!(
+                    f,
+                    "the text is not UTF-8 from byte {at} on (counted from 0): {cause}; {advice}"
+                )
+            }
             Refusal::List { list, pair } => {
                 let name = match list {
                     ListName::IdStart => "id start",
@@ -180,26 +246,43 @@ mod tests {
     #[test]
     fn numbers_go_both_ways() {
         for number in 1..=8 {
-            for (beside, second) in [(0, 0), (1, 7), (2, 2048)] {
+            for (beside, second) in [(0, 1), (1, 2), (2, 3)] {
                 let refusal = Refusal::of(number, beside, second);
                 assert_eq!(refusal.number(), number);
                 assert!(!matches!(refusal, Refusal::Unknown { .. }), "{refusal}");
             }
         }
+        for pair in [0, 7, 2048] {
+            assert_eq!(Refusal::of(3, 2, pair), Refusal::List { list: ListName::Emoji, pair });
+        }
         for (number, beside) in [(0, 0), (3, 3), (9, 1), (u32::MAX, usize::MAX)] {
-            let refusal = Refusal::of(number, beside, 0);
+            let refusal = Refusal::of(number, beside, 1);
             assert!(matches!(refusal, Refusal::Unknown { .. }));
             assert_eq!(refusal.number(), number);
         }
     }
 
     #[test]
+    fn causes_go_both_ways() {
+        for (second, cause) in [(1, Cause::Start), (2, Cause::Cut), (3, Cause::Follow)] {
+            assert_eq!(Refusal::of(2, 41, second), Refusal::NotUtf8 { at: 41, cause });
+            assert_eq!(cause.number() as usize, second);
+        }
+        // An archive from before there were causes gives 0; and no number is cut.
+        for second in [0, 4, 0x101, 0x1_0000_0001, usize::MAX] {
+            let unknown = Refusal::Unknown { number: 2, beside: 41, second };
+            assert_eq!(Refusal::of(2, 41, second), unknown);
+            assert_eq!((unknown.number(), unknown.cause()), (2, None));
+        }
+    }
+
+    #[test]
     fn places() {
         for number in 1..=8 {
-            let place = Refusal::of(number, 1, 0).place();
-            assert_eq!(place, [2, 4, 6].contains(&number).then_some(1));
-            let needed = Refusal::of(number, 1, 0).needed();
-            assert_eq!(needed, [5, 7].contains(&number).then_some(1));
+            let refusal = Refusal::of(number, 1, 3);
+            assert_eq!(refusal.place(), [2, 4, 6].contains(&number).then_some(1));
+            assert_eq!(refusal.needed(), [5, 7].contains(&number).then_some(1));
+            assert_eq!(refusal.cause(), (number == 2).then_some(Cause::Follow));
         }
     }
 
@@ -215,5 +298,22 @@ mod tests {
                 .to_string()
                 .contains("pair 17 (counted from 0) of the list `emoji`")
         );
+    }
+
+    #[test]
+    fn each_cause_has_its_words() {
+        for (cause, wrong, advice) in [
+            (Cause::Start, "no character begins with this byte", "save it as UTF-8"),
+            (Cause::Cut, "the text ends inside a character", "cut off: fetch it again"),
+            (Cause::Follow, "a later byte of it is wrong", "save it as UTF-8"),
+        ] {
+            assert!(cause.to_string().ends_with(wrong), "{cause}");
+            let said = Refusal::NotUtf8 { at: 41, cause }.to_string();
+            assert!(
+                said.starts_with("refusal 2: the text is not UTF-8 from byte 41 on "),
+                "{said}"
+            );
+            assert!(said.contains(&format!(": {cause}; ")) && said.ends_with(advice), "{said}");
+        }
     }
 }

@@ -5,6 +5,7 @@
 
 #![cfg(beside_000)]
 
+mod common;
 #[path = "../../../tools/bench/lists.rs"]
 mod lists;
 
@@ -12,6 +13,7 @@ use std::env;
 use std::ops::RangeInclusive;
 use std::sync::{Mutex, MutexGuard, PoisonError};
 
+use common::{by_rust, every_call_refuses};
 use lists::pairs;
 use lovemudarn::{
     Base, Cursor, DocStyle, FrontmatterAllowed, GuardedStr, Lists, LiteralKind, RawStrError,
@@ -276,6 +278,8 @@ struct Count {
     keys: usize,
     broken: usize,
     ill_formed: usize,
+    /// Of these, how many of each cause.
+    causes: [usize; 3],
 }
 
 fn compare(text: &str, lists: &Lists, count: &mut Count) {
@@ -386,31 +390,26 @@ fn raw_error(error: rustc_lexer::RawStrError) -> RawStrError {
     }
 }
 
-/// A text with some bytes changed: where it is not UTF-8 any more, every call tells where.
+/// A text with some bytes changed: where it is not UTF-8 any more, every call tells where and why.
 fn compare_damaged(text: &str, chance: &mut Chance, lists: &Lists, count: &mut Count) {
     let mut bytes = text.as_bytes().to_vec();
     for _ in 0..1 + chance.below(3) {
         if !bytes.is_empty() {
             let at = chance.below(bytes.len());
-            match chance.below(3) {
+            match chance.below(4) {
                 0 => bytes[at] = chance.below(256) as u8,
                 1 => drop(bytes.remove(at)),
+                2 => bytes.truncate(at),
                 _ => bytes.insert(at, 0x80 + chance.below(128) as u8),
             }
         }
     }
-    match std::str::from_utf8(&bytes) {
-        Ok(text) => compare(text, lists, count),
-        Err(error) => {
-            count.ill_formed += 1;
-            let refusal = Refusal::NotUtf8 { at: error.valid_up_to() };
-            let tokens = lovemudarn::tokenize(&bytes, FrontmatterAllowed::Yes, lists);
-            assert_eq!(tokens.map(Iterator::count), Err(refusal), "{bytes:?}");
-            assert_eq!(lovemudarn::key(&bytes, lists), Err(refusal), "{bytes:?}");
-            assert_eq!(lovemudarn::strip_shebang(&bytes), Err(refusal), "{bytes:?}");
-            assert_eq!(lovemudarn::is_ident(&bytes, lists), Err(refusal), "{bytes:?}");
-        }
-    }
+    let Some(refusal) = by_rust(&bytes) else {
+        return compare(std::str::from_utf8(&bytes).unwrap(), lists, count);
+    };
+    every_call_refuses(&bytes, lists, refusal);
+    count.ill_formed += 1;
+    count.causes[refusal.cause().unwrap().number() as usize - 1] += 1;
 }
 
 fn number(name: &str, otherwise: u64) -> u64 {
@@ -469,11 +468,20 @@ fn the_same_as_rustcs_lexer() {
         }
     }
     println!(
-        "{} texts, {} tokens, {} strings after hashes, {} keys, {} broken, {} ill-formed: all agree",
-        count.texts, count.tokens, count.strings, count.keys, count.broken, count.ill_formed
+        "{} texts, {} tokens, {} strings after hashes, {} keys, {} broken, {} ill-formed by cause {:?}: all agree",
+        count.texts,
+        count.tokens,
+        count.strings,
+        count.keys,
+        count.broken,
+        count.ill_formed,
+        count.causes
     );
     for seen in [count.strings, count.keys, count.broken, count.ill_formed] {
         assert!(seen * 50 > count.texts, "too few to tell");
+    }
+    for seen in count.causes {
+        assert!(seen * 400 > count.texts, "too few of a cause to tell");
     }
 }
 

@@ -5,8 +5,8 @@ use std::fmt::Debug;
 use std::hash::Hash;
 
 use lovemudarn::{
-    Advanced, Base, Cursor, DocStyle, FrontmatterAllowed, GuardedStr, ListName, Lists, LiteralKind,
-    RawStrError, Refusal, Run, Token, TokenKind, Tokens,
+    Advanced, Base, Cause, Cursor, DocStyle, FrontmatterAllowed, GuardedStr, ListName, Lists,
+    LiteralKind, RawStrError, Refusal, Run, Token, TokenKind, Tokens,
 };
 
 const fn value<T: Clone + Copy + Debug + PartialEq + Eq + Hash + Send + Sync + 'static>() {}
@@ -34,6 +34,7 @@ const _: () = {
     // Not there.
     value::<Advanced>();
     value::<Run>();
+    value::<Cause>();
     value::<ListName>();
     value::<Lists>();
     value::<Refusal>();

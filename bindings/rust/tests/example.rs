@@ -14,11 +14,11 @@ fn program() -> PathBuf {
     folder.join("examples/rule")
 }
 
-fn run(text: &str) -> (Option<i32>, String, String) {
-    run_into(text, Stdio::piped())
+fn run(text: impl AsRef<[u8]>) -> (Option<i32>, String, String) {
+    run_into(text.as_ref(), Stdio::piped())
 }
 
-fn run_into(text: &str, out: Stdio) -> (Option<i32>, String, String) {
+fn run_into(text: &[u8], out: Stdio) -> (Option<i32>, String, String) {
     let program = program();
     assert!(program.is_file(), "no {}: build the example `rule` first", program.display());
     let mut child = Command::new(program)
@@ -27,7 +27,7 @@ fn run_into(text: &str, out: Stdio) -> (Option<i32>, String, String) {
         .stderr(Stdio::piped())
         .spawn()
         .unwrap();
-    child.stdin.take().unwrap().write_all(text.as_bytes()).unwrap();
+    child.stdin.take().unwrap().write_all(text).unwrap();
     let Output { status, stdout, stderr } = child.wait_with_output().unwrap();
     let words = |bytes| String::from_utf8(bytes).unwrap();
     (status.code(), words(stdout), words(stderr))
@@ -47,7 +47,7 @@ fn a_text_is_keyed() {
 #[test]
 fn a_shebang_hides_nothing() {
     for limit in ["5", "9"] {
-        let (status, out, said) = run(&format!("#!/usr/*/run\nx = {limit}; // */\n"));
+        let (status, out, said) = run(format!("#!/usr/*/run\nx = {limit}; // */\n"));
         assert_eq!((status, said.as_str()), (Some(0), ""));
         assert_eq!(out.lines().next(), Some(format!("key: \\nx\\n=\\n{limit};\\n").as_str()));
     }
@@ -75,11 +75,25 @@ fn a_refusal_is_explained() {
     assert!(said.starts_with("refusal 6: ") && said.contains("begins at byte 11 "), "{said}");
 }
 
+#[test]
+fn it_is_said_why_a_text_is_not_utf8() {
+    for (text, cause) in [
+        (&b"x = 5; // \xb5g"[..], "no character begins with this byte"),
+        (b"x = 5; // \xc2", "the text ends inside a character"),
+        (b"x = 5; // \xe9tage", "a character begins, and a later byte of it is wrong"),
+    ] {
+        let (status, out, said) = run(text);
+        assert_eq!((status, out.as_str()), (Some(1), ""));
+        let start = "refusal 2: the text is not UTF-8 from byte 10 on (counted from 0): ";
+        assert!(said.starts_with(&format!("{start}{cause}; ")), "{said}");
+    }
+}
+
 /// A key that is not written whole has no good status.
 #[test]
 fn a_full_disk_is_told() {
     let full = OpenOptions::new().write(true).open("/dev/full").unwrap();
-    let (status, _, said) = run_into("a", full.into());
+    let (status, _, said) = run_into(b"a", full.into());
     assert_eq!(status, Some(2));
     assert!(said.starts_with("standard output cannot be written"), "{said}");
 }

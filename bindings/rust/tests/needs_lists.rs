@@ -1,6 +1,6 @@
 //! Where a text needs lists. tests/beside_000.rs compares what this promises with rustc's lexer.
 
-use lovemudarn::{Lists, Refusal, key, needs_lists};
+use lovemudarn::{Cause, Lists, Refusal, key, needs_lists};
 
 #[test]
 fn places() {
@@ -53,7 +53,11 @@ fn places() {
     ] {
         assert_eq!(needs_lists(text), Ok(place), "{text:?}");
     }
-    assert_eq!(needs_lists(b"a\xff"), Err(Refusal::NotUtf8 { at: 1 }));
+    for (text, cause) in
+        [(b"a\xff(", Cause::Start), (b"a\xe2\x82", Cause::Cut), (b"a\xe2(", Cause::Follow)]
+    {
+        assert_eq!(needs_lists(text), Err(Refusal::NotUtf8 { at: 1, cause }));
+    }
     // Past the first block of tokens.
     let text = format!("{}é", ";".repeat(3000));
     assert_eq!(needs_lists(&text), Ok(Some(3000)));

@@ -1,7 +1,10 @@
 //! Every refusal, its place, the order of the checks, and that a refusal writes nothing.
 
+mod common;
+
+use common::{by_rust, every_call_refuses};
 use lovemudarn::{
-    Cursor, FrontmatterAllowed::No, ListName, Lists, Refusal, Run, advance_token, check,
+    Cause, Cursor, FrontmatterAllowed::No, ListName, Lists, Refusal, Run, advance_token, check,
     guarded_double_quoted_string, is_emoji_char, is_id_continue, is_id_start, is_ident, key,
     key_into, needs_lists, strip_shebang, token_of, tokenize, tokenize_into, tokens_from,
     validate_raw_str,
@@ -21,26 +24,77 @@ fn no_tokens(text: &[u8], lists: &Lists, refusal: Refusal) {
 
 #[test]
 fn not_utf8() {
-    let texts: [(&[u8], usize); 6] = [
-        (b"\xff", 0),
-        (b"a\xc0\x80", 1),
-        (b"caf\xc3\xa9 \xed\xa0\x80", 6),
-        (b"a\xe2\x82", 1),
-        (b"a\xf4\x90\x80\x80", 1),
-        (b"\"a\xff\" /*", 2),
+    let texts: [(&[u8], usize, Cause); 24] = [
+        // A first byte that starts nothing, whatever comes after it.
+        (b"\xff", 0, Cause::Start),
+        (b"\x80", 0, Cause::Start),
+        (b"a\xc0\x80", 1, Cause::Start),
+        (b"a\xc1", 1, Cause::Start),
+        (b"a\xf5\x80\x80\x80", 1, Cause::Start),
+        (b"caf\xc3\xa9\xa9", 5, Cause::Start),
+        (b"\"a\xff\" /*", 2, Cause::Start),
+        (b"#!\xfe \xe2\x82", 2, Cause::Start),
+        // The end where every byte was right.
+        (b"\xc2", 0, Cause::Cut),
+        (b"a\xe2\x82", 1, Cause::Cut),
+        (b"a\xed\x9f", 1, Cause::Cut),
+        (b"caf\xc3\xa9 \xf0\x9f\x98", 6, Cause::Cut),
+        (b"r#\"\xf4\x8f\xbf", 3, Cause::Cut),
+        // A byte that is wrong after others, with more after it or not.
+        (b"\xe0\x80", 0, Cause::Follow),
+        (b"\xe2(", 0, Cause::Follow),
+        (b"a\xe2\xff", 1, Cause::Follow),
+        (b"a\xe2\x82b", 1, Cause::Follow),
+        (b"a\xe2\x82\0", 1, Cause::Follow),
+        (b"caf\xc3\xa9 \xed\xa0\x80", 6, Cause::Follow),
+        (b"a\xed\xa0", 1, Cause::Follow),
+        (b"a\xf0\x8f\xbf\xbf", 1, Cause::Follow),
+        (b"a\xf4\x90\x80\x80", 1, Cause::Follow),
+        (b"a\xf0\x90\x80\xc0", 1, Cause::Follow),
+        (b"#\"\xc3\" \xff", 2, Cause::Follow),
     ];
-    for (text, at) in texts {
-        let refusal = Refusal::NotUtf8 { at };
-        assert_eq!((refusal.number(), refusal.place()), (2, Some(at)));
-        assert_eq!(check(text, NONE), Err(refusal));
-        no_tokens(text, NONE, refusal);
-        assert_eq!(key(text, NONE), Err(refusal));
-        assert_eq!(needs_lists(text), Err(refusal));
-        assert_eq!(advance_token(text, NONE, 99, No), Err(refusal));
-        assert_eq!(guarded_double_quoted_string(text, NONE, 99), Err(refusal));
-        assert_eq!(is_ident(text, NONE), Err(refusal));
-        assert_eq!(strip_shebang(text), Err(refusal));
-        assert_eq!(validate_raw_str(text, 9), Err(refusal));
+    for (text, at, cause) in texts {
+        let refusal = Refusal::NotUtf8 { at, cause };
+        assert_eq!(
+            (refusal.number(), refusal.place(), refusal.cause()),
+            (2, Some(at), Some(cause))
+        );
+        every_call_refuses(text, NONE, refusal);
+    }
+}
+
+/// Every text of so many of these bytes.
+fn texts_of(bytes: &[u8], len: u32) -> impl Iterator<Item = Vec<u8>> {
+    let count = bytes.len();
+    (0..count.pow(len))
+        .map(move |n| (0..len).map(|place| bytes[n / count.pow(place) % count]).collect())
+}
+
+/// Every text of up to three bytes, and every one of four at which the rules of UTF-8 turn.
+#[test]
+fn not_utf8_as_rust_says() {
+    let every: Vec<u8> = (0..=255).collect();
+    let turns = [
+        0x00, 0x7F, 0x80, 0x8F, 0x90, 0x9F, 0xA0, 0xBF, 0xC0, 0xC1, 0xC2, 0xDF, 0xE0, 0xE1, 0xEC,
+        0xED, 0xEE, 0xEF, 0xF0, 0xF1, 0xF3, 0xF4, 0xF5, 0xFF,
+    ];
+    let mut seen = [0; 4];
+    for text in (0..=3).flat_map(|len| texts_of(&every, len)).chain(texts_of(&turns, 4)) {
+        let refusal = by_rust(&text);
+        assert_eq!(check(&text, NONE).err(), refusal, "{text:x?}");
+        seen[refusal.and_then(Refusal::cause).map_or(0, Cause::number) as usize] += 1;
+    }
+    assert_eq!(seen.iter().sum::<usize>(), 1 + 256 + 65_536 + 16_777_216 + 331_776);
+    assert!(seen.iter().all(|&count| count > 3000), "{seen:?}");
+}
+
+/// `cargo test --release -- --ignored` runs it.
+#[test]
+#[ignore = "takes some minutes"]
+fn every_text_of_four_bytes_as_rust_says() {
+    for number in 0..=u32::MAX {
+        let text = number.to_be_bytes();
+        assert_eq!(check(text, NONE).err(), by_rust(&text), "{text:x?}");
     }
 }
 
