@@ -5,7 +5,8 @@
 #   make_room               makes a temporary folder, `room`, and says what happens at the end and at signals
 #   ready PROGRAM..         proves and builds the programs if that was not done since the sources last changed
 #   find_kit, program NAME  the toolchain's folder, and a program, run under its loader
-#   take FILE, run NAME     a copy of a file, and what a program writes for it: `room`/text, `room`/answer
+#   take FILE               a copy of a file: `room`/text
+#   run NAME [FILE]         what a program writes for the copy, or for another file: `room`/answer
 #   doubtful, tell_doubt    whether the copy may have another key as rustc reads it, with full Unicode lists, and saying so
 #   warn                    says where the copy may have other tokens with full Unicode lists
 #   put [FILE]              a file, or standard input, on standard output
@@ -59,10 +60,11 @@ put() {
 }
 
 # Reads bytes as od writes them, in decimal. With `names` it writes them as one line that can be shown. Else it writes, for a refusal and its place:
-# line, column in characters and in bytes, what stands there, the hashes of a raw string, whether what matters next is past ASCII, and the bytes at the
-# place, all on one line; then the line of the place as it can be shown, cut where it is long; then the mark below it.
+# line, column in characters and in bytes, what stands there, the hashes of a raw string, whether what matters next is past ASCII, and the first `many`
+# bytes at the place in hexadecimal, all on one line; then the line of the place as it can be shown, cut where it is long; then the mark below it.
+# Which bytes are UTF-8 is not judged here: `drawn` decides nothing but what is shown for them.
 look='
-function well_formed(at,    size, i) {       # the length of the character at a byte, or 0; its code point is left in c
+function drawn(at,    size, i) {             # the bytes from here on that are shown as one character, or 0; its code point is left in c
     c = b[at]
     if (c < 128) return 1
     if (c < 194 || c > 244) return 0
@@ -84,7 +86,7 @@ function width(c) {                          # how wide a character past ASCII i
     return 0
 }
 function cell(at, raw_byte,    size, i) {    # what is shown for the character at a byte: text, wide; its bytes are the result
-    size = raw_byte ? 0 : well_formed(at)
+    size = raw_byte ? 0 : drawn(at)
     wide = 0
     if (!size) text = sprintf("<%02X>", b[at])
     else if (c == 9) text = "<tab>"
@@ -109,12 +111,6 @@ function broken(first, second) {             # what a broken token is: its first
     if (second == 114) return raw(place + 2)
     return second == 39 ? "byte" : first == 98 ? "byte-string" : "c-string"
 }
-function ill(first, second,    size, i) {    # what is wrong where a file is not UTF-8
-    if (place == 0 && (first == 255 && second == 254 || first == 254 && second == 255)) return "utf-16"
-    size = first < 194 || first > 244 ? 1 : first < 224 ? 2 : first < 240 ? 3 : 4
-    for (i = 1; place + i < n; i++) if (b[place + i] < 128 || b[place + i] > 191) return "ill"
-    return i < size ? "cut" : "ill"
-}
 { for (i = 1; i <= NF; i++) b[n++] = $i + 0 }
 END {
     n += 0
@@ -125,6 +121,7 @@ END {
         }
         exit
     }
+    if (place >= n) exit 3                   # bytes that could not be read
     line = 1
     start = 0
     for (i = 0; i < place; i++) if (b[i] == 10) { line++; start = i + 1 }
@@ -133,9 +130,9 @@ END {
     for (end = place; end < n && b[end] != 10; end++) ;
     if (end < n && end > place && b[end - 1] == 13) end--
     hashes = foreign = 0
-    what = number == 6 ? broken(b[place] + 0, b[place + 1] + 0) : number == 2 ? ill(b[place] + 0, b[place + 1] + 0) : "other"
+    what = number == 6 ? broken(b[place] + 0, b[place + 1] + 0) : "other"
     printf "%d %d %d %s %d %d", line, column, place - start + 1, what, hashes, foreign
-    for (i = place; i < place + 4 && i < n; i++) printf " %02X", b[i]
+    for (i = place; i < place + many && i < n; i++) printf " %02X", b[i]
     printf "\n"
     # the line in cells, the place in the cell `here`
     count = 0
@@ -239,11 +236,12 @@ program() {
     ${by:-} ${emulator:+"$emulator"} "$tools/lib/ld-linux-x86-64.so.2" --library-path "$tools/lib" "$root/target/bin/$program" "$@"
 }
 
-# run PROGRAM: what the program writes for the copy. It does not tell when a write fails, so that it writes into a pipe and cat writes the file.
+# run PROGRAM [FILE]: what the program writes for the copy, or for another file. It does not tell when a write fails, so that it writes into a pipe and cat
+# writes the answer.
 run() {
     true >"$room/ended" || full
     {
-        program "$1" <"$room/text" 2>"$room/complaint"
+        program "$1" <"${2:-$room/text}" 2>"$room/complaint"
         echo $? >"$room/ended"
     } | cat >"$room/answer" || full
     ended=
