@@ -111,21 +111,21 @@ pub fact : (s : List ℕ) → FactOf s (decoded s)
 fact s = fact-of (view s)
 
 -- a byte that has to come next and does
-byte-is : (low high b : ℕ) (s : List ℕ) (f : ℕ → List ℕ → Decoded) → low ≤ b → b ≤ high → byte low high (b ∷ s) f ≡ f b s
-byte-is low high b s f l h = byte-in low high f b s (inside-within low high b l h)
+byte-within : (low high b : ℕ) (s : List ℕ) (f : ℕ → List ℕ → Decoded) → low ≤ b → b ≤ high → byte low high (b ∷ s) f ≡ f b s
+byte-within low high b s f l h = byte-in low high f b s (inside-within low high b l h)
 
 in-two : (a b : ℕ) (s : List ℕ) → Tail b → utf8.two a 0x80 0xBF (b ∷ s) ≡ Char (value2 a b) 2
 unfolding utf8.two
-in-two a b s t = byte-is 0x80 0xBF b s _ (t .least) (t .most)
+in-two a b s t = byte-within 0x80 0xBF b s _ (t .least) (t .most)
 
 in-three : (a low high b c : ℕ) (s : List ℕ) → low ≤ b → b ≤ high → Tail c → utf8.three a low high (b ∷ c ∷ s) ≡ Char (value3 a b c) 3
 unfolding utf8.three
-in-three a low high b c s l h t = byte-is low high b (c ∷ s) _ l h ∙ byte-is 0x80 0xBF c s _ (t .least) (t .most)
+in-three a low high b c s l h t = byte-within low high b (c ∷ s) _ l h ∙ byte-within 0x80 0xBF c s _ (t .least) (t .most)
 
 in-four : (a low high b c d : ℕ) (s : List ℕ) → low ≤ b → b ≤ high → Tail c → Tail d → utf8.four a low high (b ∷ c ∷ d ∷ s) ≡ Char (value4 a b c d) 4
 unfolding utf8.four
 in-four a low high b c d s l h t u =
-    byte-is low high b (c ∷ d ∷ s) _ l h ∙ byte-is 0x80 0xBF c (d ∷ s) _ (t .least) (t .most) ∙ byte-is 0x80 0xBF d s _ (u .least) (u .most)
+    byte-within low high b (c ∷ d ∷ s) _ l h ∙ byte-within 0x80 0xBF c (d ∷ s) _ (t .least) (t .most) ∙ byte-within 0x80 0xBF d s _ (u .least) (u .most)
 
 -- a scalar value's bytes, whatever follows them, decode to it: by its width, and then by the row of its first byte
 module _ (v : ℕ) (t : List ℕ) where
