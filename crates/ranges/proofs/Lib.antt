@@ -1,4 +1,6 @@
 pub mod Pairs
+pub mod Search
+pub mod Turns
 pub mod Laws
 pub mod Answers
 pub mod Limit

@@ -9,11 +9,9 @@ use borrow.Author.Tests.{not-true, not-false, ltb-true, leb-true, lt-ltb, le-ltb
 use lib.Dec.{ltb, leb}
 use native.Mathlib.Numerals.{add-one}
 use native.Mathlib.Omega.{arith}
-use Rattle.basics.specs.Choice.{pick, or}
-use Rattle.basics.specs.Tests.{within}
-use Rattle.basics.proofs.Choices.{and-1, and-2, inside-within, under-within}
+use Rattle.basics.specs.Choice.{pick}
+use Rattle.basics.proofs.Choices.{and-1, and-2}
 use Rattle.ranges.specs.Rules.{meets, clear, goodPair, flawFrom, flaw, listVerdict}
-use Rattle.ranges.specs.Search.{inPairs}
 use Rattle.ranges.specs.declared.Flaw.{Flaw}
 use Rattle.ranges.specs.declared.Flaw.the-variants.{Nowhere, Pair}
 use Rattle.refusal.specs.declared.Bad.the-variants as bad
@@ -109,14 +107,14 @@ unfolding goodPair
 pair-last p low high a b c d e = rw (le-leb low high a, le-leb high 0x10FFFF b, le-leb 0x80 low c, lt-ltb p low d) e
 
 -- the list from pair k on
-pair-at : (l : List ℕ) (k : ℕ) → k < length l / 2
+pub pair-at : (l : List ℕ) (k : ℕ) → k < length l / 2
     → drop (k * 2) l ≡ getD l (k * 2) 0 ∷ getD l (k * 2 + 1) 0 ∷ drop ((k + 1) * 2) l
 pair-at l k h =
     let e : (k + 1) * 2 ≡ suc (suc (k * 2)) = omega arith in
     let f : k * 2 + 1 ≡ suc (k * 2) = omega arith in
     rw (e, f, drop-cons l (k * 2) 0 (omega arith), drop-cons l (suc (k * 2)) 0 (omega arith))
 
--- the clauses of the two definitions
+-- the clauses of the definition
 flaw-pair : (k p low high : ℕ) (l : List ℕ)
     → flawFrom k p (low ∷ high ∷ l) ≡ pick (goodPair p low high) (flawFrom (suc k) high l) (Pair k)
 unfolding flawFrom
@@ -132,16 +130,6 @@ flaw-end : (k p : ℕ) (l : List ℕ) → length l ≡ 0 → flawFrom k p l ≡ 
 unfolding flawFrom
 flaw-end k p [] h = refl
 flaw-end k p (a ∷ l) h = absurd (omega arith)
-
-held-pair : (c low high : ℕ) (l : List ℕ) → inPairs c (low ∷ high ∷ l) ≡ or (within low high c) (inPairs c l)
-unfolding inPairs
-held-pair c low high l = refl
-
-held-end : (c : ℕ) (l : List ℕ) → length l < 2 → inPairs c l ≡ false
-unfolding inPairs
-held-end c [] h = refl
-held-end c (a ∷ []) h = refl
-held-end c (a ∷ b ∷ l) h = absurd (omega arith)
 
 -- THE CHECK: what the pairs from pair k on say, after a pair that ends at p, is what the whole list says
 pub record Checked (l : List ℕ) (p k : ℕ) : Type 0 where
@@ -179,31 +167,6 @@ module _ {l : List ℕ} {p k : ℕ} (w : Checked l p k) (h : length l / 2 ≤ k)
   pub check-end : (length l % 2 ≡ 1 → ⊥) → Nowhere ≡ flawFrom 0 0 l
   check-end o =
       sym (flaw-end k p (drop (k * 2) l) (length-drop (k * 2) l ∙ omega (arith, last))) ∙ w .same
-
--- THE SEARCH: no pair before pair k holds c
-pub record Sought (c : ℕ) (l : List ℕ) (k : ℕ) : Type 0 where
-  pub same : inPairs c (drop (k * 2) l) ≡ inPairs c l
-  pub room : k ≤ length l / 2
-
-pub seek-start : (c : ℕ) (l : List ℕ) → Sought c l 0
-seek-start c l = record { same = refl; room = omega arith }
-
-module _ {c : ℕ} {l : List ℕ} {k : ℕ} (w : Sought c l k) (h : k < length l / 2) where
-  look : or (within (getD l (k * 2) 0) (getD l (k * 2 + 1) 0) c) (inPairs c (drop ((k + 1) * 2) l)) ≡ inPairs c l
-  look = sym (ap (inPairs c) (pair-at l k h) ∙ held-pair c _ _ _) ∙ w .same
-
-  pub seek-hit : getD l (k * 2) 0 ≤ c → c ≤ getD l (k * 2 + 1) 0 → true ≡ inPairs c l
-  seek-hit p q = rw (inside-within _ _ c p q) at look
-
-  pub seek-under : c < getD l (k * 2) 0 → Sought c l (k + 1)
-  seek-under p = record { same = rw (under-within _ (getD l (k * 2 + 1) 0) c p) at look; room = omega arith }
-
-  pub seek-over : getD l (k * 2) 0 ≤ c → getD l (k * 2 + 1) 0 < c → Sought c l (k + 1)
-  seek-over p q = record { same = rw (le-leb _ c p, lt-leb c _ q) at look; room = omega arith }
-
-pub seek-end : {c : ℕ} {l : List ℕ} {k : ℕ} → Sought c l k → length l / 2 ≤ k → false ≡ inPairs c l
-seek-end {c} {l} {k} w h =
-    sym (held-end c (drop (k * 2) l) (rw length-drop (omega arith))) ∙ w .same
 
 -- the count first
 pub count-over : (limit : ℕ) (l : List ℕ) → limit < length l / 2 → Pair limit ≡ flaw limit l

@@ -1,52 +1,65 @@
--- The loop keeps this: the pairs from pair k on hold c where the whole list does (`Sought`).
-use Prim.Native.Nat.{_-_}
-use Rattle.ranges.proofs.Pairs.{Sought, seek-start, seek-hit, seek-under, seek-over, seek-end}
-use mathlib.Core.Logic.{⊎-elim}
+-- The loop keeps this: the pairs before `begin` lie below c, those from `end` on above it (`Between`). The measure is how often what
+-- is left can be halved (`turnsLeft`), so that it also bounds the turns.
+use native.Mathlib.Omega.{arith}
+use Rattle.ranges.proofs.Search.{Between, seek-start, seek-below, seek-above, seek-hit, seek-end}
+use Rattle.ranges.proofs.Turns.{turnsLeft, fewer}
 use borrow.Author.Needs.{needs}
 use Rattle.ranges.proofs.in_pairs.Statement.{statement}
 use Rattle.ranges.proofs.in_pairs.Tie as tie
 
 abbrev Inv-loop : tie.InvT-loop
-Inv-loop c list pairs k₀ k = Sought c list k
+Inv-loop c list begin₀ end₀ begin end = Between c list begin end
 
 abbrev μ-loop : tie.MeasureT-loop
-μ-loop c list pairs k₀ k = pairs - k
+μ-loop c list begin₀ end₀ begin end = turnsLeft begin end
 
 loop-holds : tie.Need-loop-holds Inv-loop μ-loop
 loop-holds c = seek-start _ _
 
-mul-if1 : tie.Need-mul-if1 Inv-loop μ-loop
-mul-if1 c = search needs
+sub-middle : tie.Need-sub-middle Inv-loop μ-loop
+sub-middle c = search needs
 
-mul-if1-2 : tie.Need-mul-if1-2 Inv-loop μ-loop
-mul-if1-2 c = search needs
+add-middle : tie.Need-add-middle Inv-loop μ-loop
+add-middle c = search needs
 
-shared-slice-read-if1 : tie.Need-shared-slice-read-if1 Inv-loop μ-loop
-shared-slice-read-if1 c = search needs
+mul-low : tie.Need-mul-low Inv-loop μ-loop
+mul-low c = search needs
 
-mul-if2 : tie.Need-mul-if2 Inv-loop μ-loop
-mul-if2 c = search needs
+mul-low-2 : tie.Need-mul-low-2 Inv-loop μ-loop
+mul-low-2 c = search needs
 
-add-if2 : tie.Need-add-if2 Inv-loop μ-loop
-add-if2 c = search needs
+shared-slice-read-low : tie.Need-shared-slice-read-low Inv-loop μ-loop
+shared-slice-read-low c = search needs
 
-mul-if2-2 : tie.Need-mul-if2-2 Inv-loop μ-loop
-mul-if2-2 c = search needs
+mul-high : tie.Need-mul-high Inv-loop μ-loop
+mul-high c = search needs
 
-shared-slice-read-if2 : tie.Need-shared-slice-read-if2 Inv-loop μ-loop
-shared-slice-read-if2 c = search needs
+add-high : tie.Need-add-high Inv-loop μ-loop
+add-high c = search needs
+
+mul-high-2 : tie.Need-mul-high-2 Inv-loop μ-loop
+mul-high-2 c = search needs
+
+shared-slice-read-high : tie.Need-shared-slice-read-high Inv-loop μ-loop
+shared-slice-read-high c = search needs
+
+loop-less : tie.Need-loop-less Inv-loop μ-loop
+loop-less c = fewer _ _ (omega arith) (omega arith)
+
+loop-again : tie.Need-loop-again Inv-loop μ-loop
+loop-again c = search seek-below
+
+add-begin : tie.Need-add-begin Inv-loop μ-loop
+add-begin c = search needs
+
+loop-less-2 : tie.Need-loop-less-2 Inv-loop μ-loop
+loop-less-2 c = fewer _ _ (omega arith) (omega arith)
+
+loop-again-2 : tie.Need-loop-again-2 Inv-loop μ-loop
+loop-again-2 c = search seek-above
 
 returns : tie.Need-returns Inv-loop μ-loop
 returns c = search seek-hit
-
-add-k : tie.Need-add-k Inv-loop μ-loop
-add-k c = search needs
-
-loop-less : tie.Need-loop-less Inv-loop μ-loop
-loop-less c = search needs
-
-loop-again : tie.Need-loop-again Inv-loop μ-loop
-loop-again c = ⊎-elim (λ (x : _). search seek-over) (λ (x : _). search seek-under) (c .if1 .came)
 
 returns-2 : tie.Need-returns-2 Inv-loop μ-loop
 returns-2 c = search seek-end
@@ -58,15 +71,19 @@ in-pairs-spec =
     Inv-loop
     μ-loop
     loop-holds
-    mul-if1
-    mul-if1-2
-    shared-slice-read-if1
-    mul-if2
-    add-if2
-    mul-if2-2
-    shared-slice-read-if2
-    returns
-    add-k
+    sub-middle
+    add-middle
+    mul-low
+    mul-low-2
+    shared-slice-read-low
+    mul-high
+    add-high
+    mul-high-2
+    shared-slice-read-high
     loop-less
     loop-again
+    add-begin
+    loop-less-2
+    loop-again-2
+    returns
     returns-2)
