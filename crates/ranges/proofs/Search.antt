@@ -102,8 +102,8 @@ pub record Between (c : ℕ) (l : List ℕ) (begin end : ℕ) : Type 0 where
   pub order : begin ≤ end
   pub room : end ≤ length l / 2
 
-pub seek-start : (c : ℕ) (l : List ℕ) → Between c l 0 (length l / 2)
-seek-start c l =
+pub seek-start : {c : ℕ} {l : List ℕ} {end : ℕ} → end ≡ length l / 2 → Between c l 0 end
+seek-start e =
     record {
       below = λ k h. absurd (omega arith);
       above = λ k h p. absurd (omega arith);
@@ -111,36 +111,31 @@ seek-start c l =
       room = omega arith;
     }
 
--- the pair that a turn looks at
-abbrev middle : (begin end : ℕ) → ℕ
-middle begin end = begin + (end - begin) / 2
-
--- a turn: c lies below that pair, above it, or in it
-module _ {c : ℕ} {l : List ℕ} {begin end : ℕ} (g : Good l) (w : Between c l begin end) (h : begin < end) where
-  pub seek-below : c < low l (middle begin end) → Between c l begin (middle begin end)
-  seek-below p =
+-- a turn: c lies below pair m, or above it, and the bound on that side is moved up to it
+module _ {c : ℕ} {l : List ℕ} {begin end : ℕ} (g : Good l) (w : Between c l begin end) {m n : ℕ} where
+  pub seek-below : c < low l m → m ≤ n → begin ≤ n → n ≤ end → Between c l begin n
+  seek-below p q r s =
       record {
         below = w .below;
-        above = λ k q r. omega (arith, rise g (k - middle begin end) (middle begin end) k (omega arith) r .0);
-        order = omega arith;
+        above = λ k t u. omega (arith, rise g (k - m) m k (omega arith) u .0);
+        order = r;
         room = omega (arith, w .room);
       }
 
-  pub seek-above : high l (middle begin end) < c → Between c l (middle begin end + 1) end
-  seek-above p =
+  pub seek-above : high l m < c → n ≤ m + 1 → m < end → n ≤ end → Between c l n end
+  seek-above p q r s =
       record {
-        below = λ k q. omega (arith, rise g (middle begin end - k) k (middle begin end) (omega arith) (omega (arith, w .room)) .1);
+        below = λ k t. omega (arith, rise g (m - k) k m (omega arith) (omega (arith, w .room)) .1);
         above = w .above;
-        order = omega arith;
+        order = s;
         room = w .room;
       }
 
-  pub seek-hit : low l (middle begin end) ≤ c → c ≤ high l (middle begin end) → true ≡ inPairs c l
-  seek-hit p q =
-      let r : middle begin end < length l / 2 = omega (arith, w .room) in
-      sym (part c l (middle begin end) (omega arith) (look c l (middle begin end) r ∙ rw (inside-within _ _ c p q)))
+-- or pair m holds it
+pub seek-hit : {c : ℕ} (l : List ℕ) (m : ℕ) → low l m ≤ c → c ≤ high l m → m < length l / 2 → true ≡ inPairs c l
+seek-hit {c} l m p q h = sym (part c l m (omega arith) (look c l m h ∙ rw (inside-within _ _ c p q)))
 
--- nothing is left between them
+-- or no pair is left
 pub seek-end : {c : ℕ} {l : List ℕ} {begin end : ℕ} → Good l → Between c l begin end → end ≤ begin → false ≡ inPairs c l
 seek-end {c} {l} {begin} {end} g w h = sym (none c l apart (length l / 2) 0 (omega arith))
   where

@@ -14,7 +14,7 @@ abbrev μ-loop : tie.MeasureT-loop
 μ-loop c list begin₀ end₀ begin end = turnsLeft begin end
 
 loop-holds : tie.Need-loop-holds Inv-loop μ-loop
-loop-holds c = seek-start _ _
+loop-holds c = seek-start (omega arith)
 
 sub-middle : tie.Need-sub-middle Inv-loop μ-loop
 sub-middle c = search needs
@@ -47,7 +47,9 @@ loop-less : tie.Need-loop-less Inv-loop μ-loop
 loop-less c = fewer _ _ (omega arith) (omega arith)
 
 loop-again : tie.Need-loop-again Inv-loop μ-loop
-loop-again c = search seek-below
+loop-again c =
+    let h = c .before .before .before .before in
+    seek-below (h .before .pre) (h .loop .inv) (c .if1 .taken) (omega arith) (omega arith) (omega arith)
 
 add-begin : tie.Need-add-begin Inv-loop μ-loop
 add-begin c = search needs
@@ -56,10 +58,12 @@ loop-less-2 : tie.Need-loop-less-2 Inv-loop μ-loop
 loop-less-2 c = fewer _ _ (omega arith) (omega arith)
 
 loop-again-2 : tie.Need-loop-again-2 Inv-loop μ-loop
-loop-again-2 c = search seek-above
+loop-again-2 c =
+    let h = c .before .before .before .before .before in
+    seek-above (h .before .pre) (h .loop .inv) (c .if2 .taken) (omega arith) (omega arith) (omega arith)
 
 returns : tie.Need-returns Inv-loop μ-loop
-returns c = search seek-hit
+returns c = seek-hit _ _ (c .before .if1 .left) (c .if2 .left) (omega arith)
 
 returns-2 : tie.Need-returns-2 Inv-loop μ-loop
 returns-2 c = search seek-end
