@@ -1,17 +1,17 @@
-//! Times the archive beside rustc's lexer ("000") in one process, on the same texts and lists, in turn.
+//! Times the archive beside rustc's lexer ("000") in one process, on the same texts and lists, in turn. Where
+//! it is built with `--cfg before`, a second archive is timed in the same turns: the one of another checkout.
 //!
 //!     bench [--rounds N]                     the table
 //!     bench profile WORK SIDE TEXT KIB N     one of them N times, for a profiler
 //!
 //!     bench text KIB TEXT                    the text itself
 //!
-//! WORK is key, tokens or check; SIDE is rattle or 000; TEXT is ascii, mixed or names.
+//! WORK is key, tokens or check; SIDE is rattle, 000 or before; TEXT is ascii, mixed or names.
 //!
-//! Both sides take bytes. "key" is the key into a lent buffer; 000 has none, so there it is 000's
+//! All sides take bytes. "key" is the key into a lent buffer; 000 has none, so there it is 000's
 //! `tokenize` and, in the same pass, the key by the scope paper's words, in plain Rust. "tokens" is the
 //! kind, suffix, length and start of every token into a lent buffer. "check" is what comes before the
-//! tokens: UTF-8 and the rules of the lists on the one side, `from_utf8` on the other, and it is part of
-//! the other two on both sides.
+//! tokens: UTF-8 and the rules of the lists, for 000 `from_utf8`, and it is part of the other two.
 
 mod lists;
 mod source;
@@ -22,7 +22,7 @@ use std::process::ExitCode;
 use std::time::Instant;
 
 use lists::pairs;
-use lovemudarn::{FrontmatterAllowed, Lists, Record};
+use lovemudarn::{Lists, Record};
 use rustc_lexer::{LiteralKind, TokenKind};
 use source::{Choice, source};
 
@@ -103,7 +103,27 @@ fn is_picture(c: char) -> bool {
     matches!(c, '\u{2600}'..='\u{27bf}' | '\u{1f300}'..='\u{1f64f}' | '\u{1f680}'..='\u{1f6ff}' | '\u{1f900}'..='\u{1f9ff}')
 }
 
-// ---- one text, with the buffers of both sides ----
+// ---- the archive's side ----
+
+/// A work on the text of a bench, by a crate over an archive: this one's or the one before.
+macro_rules! archive {
+    ($lib:ident, $bench:ident, $work:ident, $text:ident) => {{
+        let Lists { id_start, id_continue, emoji } = $bench.lists;
+        let lists = $lib::Lists { id_start, id_continue, emoji };
+        let (off, out) = ($lib::FrontmatterAllowed::No, &mut $bench.ours);
+        match $work {
+            Work::Key => $lib::key_into($text, &lists, out).ok(),
+            Work::KeyCleared => {
+                black_box(&mut *out).fill(0);
+                $lib::key_into($text, &lists, out).ok()
+            }
+            Work::Tokens => $lib::tokenize_into($text, off, &lists, &mut $bench.our_records).ok(),
+            Work::Check => $lib::check($text, &lists).ok().map(|()| 0),
+        }
+    }};
+}
+
+// ---- one text, with the buffers of the archive's side and of 000's ----
 
 struct Bench<'a> {
     text: Vec<u8>,
@@ -126,6 +146,19 @@ enum Work {
 enum Side {
     Rattle,
     Rust,
+    #[cfg(before)]
+    Before,
+}
+
+const SIDES: &[(Side, &str)] = &[
+    (Side::Rattle, "Rattle"),
+    (Side::Rust, "000"),
+    #[cfg(before)]
+    (Side::Before, "before"),
+];
+
+fn archives() -> impl Iterator<Item = &'static (Side, &'static str)> {
+    SIDES.iter().filter(|(side, _)| *side != Side::Rust)
 }
 
 impl Bench<'_> {
@@ -146,39 +179,34 @@ impl Bench<'_> {
     /// Does the work once and gives a number that depends on it.
     fn run(&mut self, work: Work, side: Side) -> Option<usize> {
         let text = black_box(&self.text[..]);
-        match (work, side) {
-            (Work::Key, Side::Rattle) => {
-                lovemudarn::key_into(text, &self.lists, &mut self.ours).ok()
-            }
-            (Work::Key, Side::Rust) => their_key(text, &mut self.theirs),
-            (Work::KeyCleared, Side::Rattle) => {
-                black_box(&mut self.ours).fill(0);
-                lovemudarn::key_into(text, &self.lists, &mut self.ours).ok()
-            }
-            (Work::KeyCleared, Side::Rust) => {
+        match (side, work) {
+            (Side::Rattle, work) => archive!(lovemudarn, self, work, text),
+            #[cfg(before)]
+            (Side::Before, work) => archive!(before, self, work, text),
+            (Side::Rust, Work::Key) => their_key(text, &mut self.theirs),
+            (Side::Rust, Work::KeyCleared) => {
                 black_box(&mut self.theirs).fill(0);
                 their_key(text, &mut self.theirs)
             }
-            (Work::Tokens, Side::Rattle) => lovemudarn::tokenize_into(
-                text,
-                FrontmatterAllowed::No,
-                &self.lists,
-                &mut self.our_records,
-            )
-            .ok(),
-            (Work::Tokens, Side::Rust) => their_tokens(text, &mut self.their_records),
-            (Work::Check, Side::Rattle) => lovemudarn::check(text, &self.lists).ok().map(|()| 0),
-            (Work::Check, Side::Rust) => std::str::from_utf8(text).ok().map(str::len).map(|_| 0),
+            (Side::Rust, Work::Tokens) => their_tokens(text, &mut self.their_records),
+            (Side::Rust, Work::Check) => std::str::from_utf8(text).ok().map(str::len).map(|_| 0),
         }
     }
 
-    /// Whether both sides give the same key and the same tokens.
+    /// The bytes of the key and the tokens, where every archive gives those of 000.
     fn agree(&mut self) -> Option<(usize, usize)> {
-        let key = self.run(Work::Key, Side::Rattle)?;
+        archives().try_fold((0, 0), |_, &(side, _)| self.agrees(side))
+    }
+
+    fn agrees(&mut self, side: Side) -> Option<(usize, usize)> {
+        // Nothing is left of what another archive wrote.
+        self.ours.fill(1);
+        self.our_records.fill([1; 4]);
+        let key = self.run(Work::Key, side)?;
         if self.run(Work::Key, Side::Rust)? != key || self.ours[..key] != self.theirs[..key] {
             return None;
         }
-        let tokens = self.run(Work::Tokens, Side::Rattle)?;
+        let tokens = self.run(Work::Tokens, side)?;
         if self.run(Work::Tokens, Side::Rust)? != tokens {
             return None;
         }
@@ -207,11 +235,18 @@ fn middle_and_most(mut times: Vec<f64>) -> (f64, f64) {
     (times[times.len() / 2], times[times.len() * 9 / 10])
 }
 
+/// The heads of the columns of a table, and the line below them.
+fn heads() -> String {
+    let mut heads = vec!["text".to_string(), "KiB".into(), "work".into(), "buffer".into()];
+    for (_, name) in SIDES {
+        heads.extend([format!("{name} µs"), "p90".into(), "ns/byte".into()]);
+    }
+    heads.extend(archives().map(|(_, name)| format!("{name} / 000")));
+    format!("| {} |\n|{}", heads.join(" | "), "---|".repeat(heads.len()))
+}
+
 fn table(rounds: usize, lists: Lists) -> Result<(), String> {
-    println!(
-        "| text | KiB | work | buffer | Rattle µs | p90 | ns/byte | 000 µs | p90 | ns/byte | Rattle / 000 |"
-    );
-    println!("|---|---|---|---|---|---|---|---|---|---|---|");
+    println!("{}", heads());
     for (name, choice) in TEXTS {
         let sizes: &[usize] = if choice == Choice::Names { &[64] } else { &[16, 32, 64, 128] };
         for &kib in sizes {
@@ -224,16 +259,12 @@ fn table(rounds: usize, lists: Lists) -> Result<(), String> {
                 work.push((Work::Check, "check", "none"));
             }
             work.push((Work::Tokens, "tokens", "as left"));
-            let mut times = vec![[Vec::new(), Vec::new()]; work.len()];
+            let mut times = vec![vec![Vec::new(); SIDES.len()]; work.len()];
             for round in 0..rounds + 5 {
                 for (at, &(work, _, _)) in work.iter().enumerate() {
-                    // Either side goes first every other time.
-                    let order = if round % 2 == 0 {
-                        [Side::Rattle, Side::Rust]
-                    } else {
-                        [Side::Rust, Side::Rattle]
-                    };
-                    for side in order {
+                    // Each side goes first in its turn.
+                    for turn in 0..SIDES.len() {
+                        let (side, _) = SIDES[(round + turn) % SIDES.len()];
                         let took = bench.time(work, side);
                         // The first rounds warm up.
                         if round >= 5 {
@@ -242,19 +273,17 @@ fn table(rounds: usize, lists: Lists) -> Result<(), String> {
                     }
                 }
             }
-            for ((_, what, buffer), [ours, theirs]) in work.into_iter().zip(times) {
-                let (ours, theirs) = (middle_and_most(ours), middle_and_most(theirs));
-                let a_byte = |time: f64| time * 1000.0 / (kib * 1024) as f64;
-                println!(
-                    "| {name} | {kib} | {what} | {buffer} | {:.0} | {:.0} | {:.1} | {:.0} | {:.0} | {:.1} | {:.1} |",
-                    ours.0,
-                    ours.1,
-                    a_byte(ours.0),
-                    theirs.0,
-                    theirs.1,
-                    a_byte(theirs.0),
-                    ours.0 / theirs.0
-                );
+            for ((_, what, buffer), times) in work.into_iter().zip(times) {
+                let times: Vec<(f64, f64)> = times.into_iter().map(middle_and_most).collect();
+                print!("| {name} | {kib} | {what} | {buffer} |");
+                for (middle, most) in &times {
+                    let a_byte = middle * 1000.0 / (kib * 1024) as f64;
+                    print!(" {middle:.0} | {most:.0} | {a_byte:.1} |");
+                }
+                for &(side, _) in archives() {
+                    print!(" {:.1} |", times[side as usize].0 / times[Side::Rust as usize].0);
+                }
+                println!();
             }
         }
     }
@@ -295,11 +324,8 @@ fn profile(words: &[&str], lists: Lists) -> Result<(), String> {
         "check" => Work::Check,
         _ => return Err(format!("no work: {work}")),
     };
-    let side = match side {
-        "rattle" => Side::Rattle,
-        "000" => Side::Rust,
-        _ => return Err(format!("no side: {side}")),
-    };
+    let named = SIDES.iter().find(|(_, name)| name.eq_ignore_ascii_case(side));
+    let &(side, _) = named.ok_or(format!("no side: {side}"))?;
     let number = |word: &str| word.parse::<usize>().map_err(|_| format!("no number: {word}"));
     let mut bench = Bench::new(source(number(kib)? * 1024, choice(text)?), lists);
     let count = number(count)?;
