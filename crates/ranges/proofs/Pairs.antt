@@ -5,7 +5,7 @@ use mathlib.Core.Bool.{Bool, true, false, not}
 use mathlib.Core.List.{List, [], _∷_}
 use lib.ListN.{length, getD, drop, length-drop}
 use lib.Seq.{drop-cons}
-use borrow.Author.Tests.{not-true, not-false, ltb-true, leb-true, lt-ltb, le-ltb, le-leb, lt-leb}
+use borrow.Author.Tests.{not-true, not-false, ltb-true, leb-true, lt-ltb, le-ltb, le-leb}
 use lib.Dec.{ltb, leb}
 use native.Mathlib.Numerals.{add-one}
 use native.Mathlib.Omega.{arith}
