@@ -1,7 +1,7 @@
 -- THE SEARCH by halving: the order of a good list's pairs, what a list holds pair by pair, and what the loop keeps.
 use Prim.Native.Nat.{ℕ, zero, suc, _+_, _-_, _*_, _/_, _≤_, _<_}
 use mathlib.Core.Path.{_≡_, refl, sym, ap, _∙_}
-use mathlib.Core.Bool.{Bool, true, false}
+use mathlib.Core.Bool.{true, false}
 use mathlib.Core.Logic.{⊎-elim}
 use mathlib.Core.List.{List, [], _∷_}
 use lib.ListN.{length, getD, drop, length-drop}
@@ -48,6 +48,7 @@ module _ {l : List ℕ} (g : Good l) where
       let w = reached k (omega arith) in
       rw (add-one k) at (check-on w (omega arith) refl (rw (obeys w (omega arith))))
 
+  -- and every pair obeys the rules
   fits : (k : ℕ) → k < length l / 2 → Fits (previous l k) (low l k) (high l k)
   fits k h = pair-true _ _ _ (obeys (reached k (omega arith)) h)
 
@@ -74,11 +75,8 @@ held-end c [] h = refl
 held-end c (a ∷ []) h = refl
 held-end c (a ∷ b ∷ l) h = absurd (omega arith)
 
-or-2 : (a b : Bool) → b ≡ true → or a b ≡ true
-or-2 true b e = refl
-or-2 false b e = e
-
 module _ (c : ℕ) (l : List ℕ) where
+  -- pair k holds c, or a later one does
   look : (k : ℕ) → k < length l / 2
       → inPairs c (drop (k * 2) l) ≡ or (within (low l k) (high l k) c) (inPairs c (drop ((k + 1) * 2) l))
   look k h = ap (inPairs c) (pair-at l k h) ∙ held-pair c _ _ _
@@ -87,7 +85,11 @@ module _ (c : ℕ) (l : List ℕ) where
   part : (k : ℕ) → k ≤ length l / 2 → inPairs c (drop (k * 2) l) ≡ true → inPairs c l ≡ true
   part zero h e = e
   part (suc k) h e =
-      part k (omega arith) (look k (omega arith) ∙ or-2 (within (low l k) (high l k) c) _ (rw (add-one k) e))
+      part k (omega arith)
+      (⊎-elim
+      (λ (t : within (low l k) (high l k) c ≡ true). look k (omega arith) ∙ rw t)
+      (λ (t : within (low l k) (high l k) c ≡ false). look k (omega arith) ∙ rw (t, add-one k) e)
+      (yes-or-no (within (low l k) (high l k) c)))
 
   -- where no pair holds c, the last n pairs do not
   none : ((k : ℕ) → k < length l / 2 → within (low l k) (high l k) c ≡ false)
