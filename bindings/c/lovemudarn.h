@@ -9,9 +9,9 @@
  * TEXT. The bytes of the text; no 0 ends them, and a byte 0 is a character like others. Positions and lengths count bytes.
  *
  * LISTS. `starts`, `continues` and `emoji` are the code points from 0x80 on that start an identifier, go on in one, and are emoji: a low and a high code
- * point in turn, both included. Rules: at most 2,048 pairs; an even count of numbers; low <= high <= 0x10FFFF; low >= 0x80; each low above the high before
- * it; no pair covers a surrogate, U+0085, U+200E, U+200F, U+2028 or U+2029. AN EMPTY LIST (count 0) is a good list: then no character from 0x80 on is in
- * that class. Below 0x80 the lists have no say.
+ * point in turn, both included. Rules: at most LOVEMUDARN_MAX_PAIRS pairs; an even count of numbers; low <= high <= 0x10FFFF; low >= 0x80; each low above
+ * the high before it; no pair covers a surrogate, U+0085, U+200E, U+200F, U+2028 or U+2029. AN EMPTY LIST (count 0) is a good list: then no character from
+ * 0x80 on is in that class. Below 0x80 the lists have no say. Pairs may adjoin: only what a list holds counts, not how it is cut into pairs.
  *
  * FLAGS. A `bool` that goes in must be true or false (1 or 0). `on` says whether frontmatter may stand at the position: true at the start of a file, false
  * in the middle of one.
@@ -38,7 +38,7 @@ extern "C" {
 #define LOVEMUDARN_TOO_LONG 1u     /* the text has more than 4,294,967,295 bytes; beside: 0 */
 #define LOVEMUDARN_NOT_UTF8 2u     /* the text is not UTF-8; beside: the start of the first ill-formed sequence; second: the cause */
 #define LOVEMUDARN_BAD_LIST 3u     /* a list breaks a rule; beside: the list (0 starts, 1 continues, 2 emoji); second: the index of the pair, of a half
-                                      pair too; 2,048 where there are more pairs than that */
+                                      pair too; LOVEMUDARN_MAX_PAIRS where there are more pairs than that */
 #define LOVEMUDARN_BAD_POSITION 4u /* the position is past the end of the text or inside a character; beside: the position */
 #define LOVEMUDARN_FEW_SLOTS 5u    /* the run has fewer slots than the text has tokens; beside: the tokens, each of which needs four numbers */
 #define LOVEMUDARN_BROKEN_TOKEN 6u /* the text has a broken token, and so no key: a literal that does not end or has no hash count, or a block comment
@@ -56,7 +56,7 @@ extern "C" {
 #define LOVEMUDARN_LIST_STARTS 0u
 #define LOVEMUDARN_LIST_CONTINUES 1u
 #define LOVEMUDARN_LIST_EMOJI 2u
-#define LOVEMUDARN_MAX_PAIRS 2048u
+#define LOVEMUDARN_MAX_PAIRS 8192u /* of each list */
 
 /* ---- the code of a kind
  *

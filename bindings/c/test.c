@@ -38,7 +38,9 @@ static const uint32_t low[2] = {0x41, 0x5A};
 static const uint32_t half[3] = {0x100, 0x200, 0x300};
 static const uint32_t meeting[4] = {0x1F600, 0x1F64F, 0x1F64F, 0x1F700};
 static const uint32_t surrogate[4] = {0x100, 0x100, 0xD700, 0xD800};
-static uint32_t many[4098];
+
+/* good pairs, but one too many: the header's limit is held against what the archive refuses */
+static uint32_t many[2 * LOVEMUDARN_MAX_PAIRS + 2];
 
 static void answer(const char *what, struct lovemudarn_answer a, unsigned long number, unsigned long beside, unsigned long second) {
     same(what, "number", a.number, number);
@@ -56,9 +58,23 @@ static void test_check(void) {
     answer("check: a half pair", lovemudarn_check(TEXT("a"), NONE, LIST(half), NONE), LOVEMUDARN_BAD_LIST, LOVEMUDARN_LIST_CONTINUES, 1);
     answer("check: not above", lovemudarn_check(TEXT("a"), NONE, NONE, LIST(meeting)), LOVEMUDARN_BAD_LIST, LOVEMUDARN_LIST_EMOJI, 1);
     answer("check: a surrogate in a list", lovemudarn_check(TEXT("a"), NONE, LIST(surrogate), NONE), LOVEMUDARN_BAD_LIST, LOVEMUDARN_LIST_CONTINUES, 1);
-    answer("check: too many pairs", lovemudarn_check(TEXT("a"), LIST(many), NONE, NONE), LOVEMUDARN_BAD_LIST, LOVEMUDARN_LIST_STARTS, 2048);
     answer("check: lists in order", lovemudarn_check(TEXT("a"), NONE, LIST(half), LIST(meeting)), LOVEMUDARN_BAD_LIST, LOVEMUDARN_LIST_CONTINUES, 1);
     answer("check: 3 before 2", lovemudarn_check(TEXT("\377"), NONE, NONE, LIST(low)), LOVEMUDARN_BAD_LIST, LOVEMUDARN_LIST_EMOJI, 0);
+}
+
+static void test_many(void) {
+    const uint32_t first = 0x10000, most = 2 * LOVEMUDARN_MAX_PAIRS;
+    for (uint32_t i = 0; i < most + 2; i += 1) many[i] = first + i;
+    answer("many: the most pairs", lovemudarn_check(TEXT("a"), many, most, many, most, many, most), LOVEMUDARN_DONE, 0, 0);
+    answer("many: a half more", lovemudarn_check(TEXT("a"), many, most + 1, NONE, NONE), LOVEMUDARN_BAD_LIST, LOVEMUDARN_LIST_STARTS, LOVEMUDARN_MAX_PAIRS);
+    answer("many: one more", lovemudarn_check(TEXT("a"), NONE, LIST(many), NONE), LOVEMUDARN_BAD_LIST, LOVEMUDARN_LIST_CONTINUES, LOVEMUDARN_MAX_PAIRS);
+    /* the last pair counts, and the one after it would hold another character */
+    answer("many: the last point", lovemudarn_is_id_start(first + most - 1, many, most), LOVEMUDARN_DONE, 1, 0);
+    answer("many: the next point", lovemudarn_is_id_start(first + most, many, most), LOVEMUDARN_DONE, 0, 0);
+    /* more pairs than may be, the first of them bad: the count comes first */
+    many[0] = 0x41;
+    answer("many: the count first", lovemudarn_check(TEXT("a"), NONE, NONE, LIST(many)), LOVEMUDARN_BAD_LIST, LOVEMUDARN_LIST_EMOJI, LOVEMUDARN_MAX_PAIRS);
+    answer("many: the first pair bad", lovemudarn_check(TEXT("a"), many, most, NONE, NONE), LOVEMUDARN_BAD_LIST, LOVEMUDARN_LIST_STARTS, 0);
 }
 
 static void given(const char *what, struct lovemudarn_token_answer a, unsigned long kind, unsigned long suffix, unsigned long len, unsigned long start,
@@ -602,6 +618,7 @@ static void test_too_long(void) {
 int main(void) {
     test_too_long();
     test_check();
+    test_many();
     test_token();
     test_tokens();
     test_tokens_from();

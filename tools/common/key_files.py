@@ -4,7 +4,7 @@ import sys
 
 from common.chance import Numbers
 from common.ending import fail
-from common.lists import EVERYTHING, GOOD, NO_LISTS, counted_lists, full_list, refused_lists
+from common.lists import EVERYTHING, GOOD, NO_LISTS, refused_lists
 from common.packing import MOST_ROOM, numbers_in
 from common.texts import (
     EMOJI_ONLY, FRAGMENTS, ILL_FORMED, LINE, NO_EMOJI, NO_WHITESPACE, OTHER_ROWS, POINTS, ROWS, WHITESPACE,
@@ -202,20 +202,7 @@ def lists(maker):
             calls.key_somewhere(maker.numbers, text)
 
     choices = (NO_LISTS, maker.real, EVERYTHING, POINTS, EMOJI_ONLY, NO_EMOJI)
-    return [maker.section(chosen, fill) for chosen in choices] + [full_lists(maker)]
-
-
-def full_lists(maker):
-    """Exactly 2,048 pairs: quotes before characters at the ends of some pairs, a lifetime or broken."""
-    chosen = (full_list(11), full_list(12), POINTS[2])
-
-    def fill(calls):
-        for index in (0, 1, 2, 511, 512, 1023, 1024, 1025, 1536, 2045, 2046, 2047):
-            start, later = (chr(numbers[2 * index + 1]) for numbers in chosen[:2])
-            for text in (f"{start}{later} {later} {start}", f" '{start}{later}/**/", f"'{later}\n1.{start}"):
-                calls.key_somewhere(maker.numbers, text.encode("utf-8"))
-
-    return maker.section(chosen, fill)
+    return [maker.section(chosen, fill) for chosen in choices]
 
 
 # ---- refusals ----
@@ -254,14 +241,7 @@ def refused_by_lists(maker):
                 chosen[(which + 1) % 3] = bad[(3 * at + which) % len(bad)]
             sections.append(maker.section(tuple(chosen), fill))
     sections.append(maker.section((bad[0], bad[30], bad[60]), fill))
-    sections.append(maker.section(GOOD, fill))
-    counted = counted_lists()
-    names = ["2049 pairs", "2048 pairs and a half", "2048 pairs, the last bad"]
-    for which, name in enumerate(names):
-        chosen = [*GOOD]
-        chosen[which] = counted[name]
-        sections.append(maker.section(tuple(chosen), fill))
-    return sections
+    return sections + [maker.section(GOOD, fill)]
 
 
 # ---- room ----

@@ -13,6 +13,10 @@ from common.ending import fail
 TOOLS = os.path.dirname(os.path.dirname(os.path.abspath(__file__)))
 LIST_NAMES = ["start", "continue", "emoji"]
 TOP = 0x10FFFF
+# The most pairs of a list: the scope paper, as request W7 amends it. Of the tools this one alone has the number.
+MAX_PAIRS = 8192
+# What it was before.
+FORMER_MOST = 2048
 
 
 def is_scalar(number):
@@ -34,8 +38,8 @@ def pair_is_bad(low, high, before):
 def bad_index(numbers):
     """None for a good list, else the pair index beside refusal 3."""
     whole = len(numbers) // 2
-    if whole > 2048:
-        return 2048
+    if whole > MAX_PAIRS:
+        return MAX_PAIRS
     before = None
     for index in range(whole):
         low, high = numbers[2 * index], numbers[2 * index + 1]
@@ -69,19 +73,39 @@ POOL = [
 ]
 
 
-def full_list(seed, count=2048):
+def full_list(seed, count=MAX_PAIRS):
     """As many good pairs as asked for, close together first and then spread out."""
     numbers = Numbers(seed)
     pairs = []
     before = 0x7F
+    # Wider gaps would lead past the last code point where there are many pairs.
+    widest = 800 if count <= FORMER_MOST else 200
     while len(pairs) < count - 1:
-        gap = numbers.below(4) if len(pairs) < count // 2 else numbers.below(800)
+        gap = numbers.below(4 if len(pairs) < count // 2 else widest)
         low = before + 1 + gap
         high = low + numbers.below(3)
         before = high
         if not pair_is_bad(low, high, None):
             pairs.append((low, high))
     return flat(pairs + [(TOP, TOP)])
+
+
+def cut_up(seed, numbers, count):
+    """The same points in as many pairs as asked for, or each alone where there are not enough: round by round a pair becomes two."""
+    chance = Numbers(seed)
+    pairs = list(zip(numbers[::2], numbers[1::2]))
+    while len(pairs) < count and any(low < high for low, high in pairs):
+        left = count - len(pairs)
+        cut = []
+        for low, high in pairs:
+            if low < high and left > 0:
+                middle = low + chance.below(high - low)
+                cut += [(low, middle), (middle + 1, high)]
+                left -= 1
+            else:
+                cut.append((low, high))
+        pairs = cut
+    return flat(pairs)
 
 
 def read_real(arguments):
@@ -153,20 +177,26 @@ def refused_lists():
 
 
 def counted_lists():
-    """Lists near the limit of 2,048 pairs, and the index that is meant."""
-    over = full_list(21, 2049)
-    exact = full_list(22)
-    most = full_list(23, 2100)
-    bad_first = [0x41, 0x41] + most[2:]
-    bad_fifth = exact[:10] + [exact[11] + 1, exact[10]] + exact[12:]
-    bad_last = exact[:-2] + [TOP, 0x110000]
+    """Lists of more than the most pairs, and of the most with a fault; the index that is meant."""
+    over = full_list(21, MAX_PAIRS + 1)
+    most = full_list(22)
+
+    def with_pair(index, low, high):
+        return most[: 2 * index] + [low, high] + most[2 * index + 2 :]
+
+    def turned(index):
+        return with_pair(index, most[2 * index + 1] + 1, most[2 * index])
+
+    last, former = MAX_PAIRS - 1, FORMER_MOST
     lists = {
-        "2049 pairs": (over, 2048),
-        "2049 pairs and a half": (over + [TOP], 2048),
-        "2048 pairs and a half": (exact + [TOP], 2048),
-        "pair 5 bad, 2048 and a half": (bad_fifth + [TOP], 5),
-        "2100 pairs, pair 0 bad": (bad_first, 2048),
-        "2048 pairs, the last bad": (bad_last, 2047),
+        "one more": (over, MAX_PAIRS),
+        "a half more": (most + [TOP], MAX_PAIRS),
+        "one and a half more, pair 0 bad": ([0x41, 0x41] + over[2:] + [TOP], MAX_PAIRS),
+        "a half more, pair 5 bad": (turned(5) + [TOP], 5),
+        "the first bad": (with_pair(0, 0x7F, most[1]), 0),
+        "the last of the former most bad": (turned(former - 1), former - 1),
+        "the one past the former most bad": (with_pair(former, most[2 * former - 1], most[2 * former + 1]), former),
+        "the last bad": (with_pair(last, TOP, 0x110000), last),
     }
     for name, (numbers, index) in lists.items():
         if bad_index(numbers) != index:

@@ -3,7 +3,7 @@
 import sys
 
 from common.ending import fail
-from common.lists import EVERYTHING, GOOD, NO_LISTS, counted_lists, full_list, refused_lists
+from common.lists import EVERYTHING, GOOD, NO_LISTS, refused_lists
 from common.packing import ANSWER_LIMIT, RECORDS, TOKENS, TOKENS_ONCE, numbers_of, section, vector
 from common.texts import (
     EDGES, EMOJI_ONLY, ILL_FORMED, LINE, NO_EMOJI, OTHER_ROWS, POINTS, RAW_STARTS, ROWS, SHORT,
@@ -117,21 +117,7 @@ class Files:
     def lists(self):
         requests = listed_requests(3 * SEED + 2, LISTED_TEXTS)
         choices = (NO_LISTS, self.real, EVERYTHING, POINTS, EMOJI_ONLY, NO_EMOJI)
-        sections = [self.section(lists, lambda calls: calls.requests(requests)) for lists in choices]
-        return sections + [self.full_lists()]
-
-    def full_lists(self):
-        """Exactly 2,048 pairs: the characters at the ends of some pairs."""
-        lists = (full_list(11), full_list(12), POINTS[2])
-
-        def fill(calls):
-            for index in (0, 1, 2, 511, 512, 1023, 1024, 1025, 1536, 2045, 2046, 2047):
-                start, later = (chr(numbers[2 * index + 1]) for numbers in lists[:2])
-                text = f"{start}{later} {later}{start} '{start} 1{start} a{later}#".encode("utf-8")
-                calls.tokens(0, text)
-                calls.guarded(0, f'#"a"{start}{later}'.encode("utf-8"))
-
-        return self.section(lists, fill)
+        return [self.section(lists, lambda calls: calls.requests(requests)) for lists in choices]
 
     # ---- positions and refusals ----
 
@@ -182,11 +168,7 @@ class Files:
                 if at % 8 == 7:
                     lists[(which + 1) % 3] = bad[(3 * at + which) % len(bad)]
                 sections.append(self.section(tuple(lists), every_call))
-        sections.append(self.section((bad[0], bad[30], bad[60]), every_call))
-        counted = counted_lists()
-        for name in ("2049 pairs", "2048 pairs and a half", "2048 pairs, the last bad"):
-            sections.append(self.section((GOOD[0], counted[name], GOOD[2]), every_call))
-        return sections
+        return sections + [self.section((bad[0], bad[30], bad[60]), every_call)]
 
     # ---- long texts ----
 

@@ -37,7 +37,7 @@ pub use cursor::{Cursor, Tokens};
 pub use kinds::{
     Base, DocStyle, FrontmatterAllowed, GuardedStr, LiteralKind, RawStrError, Token, TokenKind,
 };
-pub use lists::{Lists, needs_lists};
+pub use lists::{Lists, MAX_PAIRS, needs_lists};
 pub use refusal::{Cause, ListName, Refusal};
 
 // Every unsafe block below is one call of the archive, for the same reason: each pointer with its

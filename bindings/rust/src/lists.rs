@@ -2,15 +2,19 @@
 
 use crate::{FrontmatterAllowed, LiteralKind, Refusal, Token, TokenKind, Tokens, tokenize};
 
+/// The most pairs that a list may have.
+pub const MAX_PAIRS: usize = 8192;
+
 /// The three lists of code points that are lent to the calls, in place of Unicode's tables.
 ///
 /// A list is pairs of low and high code point, both included, as numbers in turn. The rules: at most
-/// 2,048 pairs; an even count of numbers; low ≤ high ≤ 0x10FFFF; low ≥ 0x80; each low above the
-/// previous high; no pair covers a surrogate, U+0085, U+200E, U+200F, U+2028 or U+2029. A list that
-/// breaks one is refused ([`Refusal::List`]). Below 0x80 the lists do not count.
+/// [`MAX_PAIRS`] pairs; an even count of numbers; low ≤ high ≤ 0x10FFFF; low ≥ 0x80; each low above
+/// the previous high; no pair covers a surrogate, U+0085, U+200E, U+200F, U+2028 or U+2029. A list
+/// that breaks one is refused ([`Refusal::List`]). Below 0x80 the lists do not count.
 ///
-/// Which lists are lent belongs to the answer: keys that were made with different lists are not
-/// comparable.
+/// Which lists are lent belongs to the answer: keys that were made with lists that hold different
+/// code points are not comparable. How a list is cut into pairs does not matter: lists that hold the
+/// same code points give the same tokens and keys.
 #[derive(Clone, Copy, Debug, Default, PartialEq, Eq, Hash)]
 pub struct Lists<'a> {
     /// What may begin an identifier.

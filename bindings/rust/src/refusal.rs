@@ -75,7 +75,8 @@ pub enum Refusal {
     List {
         /// The first list that does.
         list: ListName,
-        /// The index of the pair that does; 2,048 where there are more pairs than that.
+        /// The index of the pair that does; [`MAX_PAIRS`](crate::MAX_PAIRS) where there are more pairs
+        /// than that.
         pair: usize,
     },
     /// 4: the position is past the end of the text, or inside a character.
@@ -252,7 +253,7 @@ mod tests {
                 assert!(!matches!(refusal, Refusal::Unknown { .. }), "{refusal}");
             }
         }
-        for pair in [0, 7, 2048] {
+        for pair in [0, 7, crate::MAX_PAIRS] {
             assert_eq!(Refusal::of(3, 2, pair), Refusal::List { list: ListName::Emoji, pair });
         }
         for (number, beside) in [(0, 0), (3, 3), (9, 1), (u32::MAX, usize::MAX)] {

@@ -4,7 +4,7 @@ mod common;
 
 use common::{by_rust, every_call_refuses};
 use lovemudarn::{
-    Cause, Cursor, FrontmatterAllowed::No, ListName, Lists, Refusal, Run, advance_token, check,
+    Cause, Cursor, FrontmatterAllowed::No, ListName, Lists, MAX_PAIRS, Refusal, Run, advance_token, check,
     guarded_double_quoted_string, is_emoji_char, is_id_continue, is_id_start, is_ident, key,
     key_into, needs_lists, strip_shebang, token_of, tokenize, tokenize_into, tokens_from,
     validate_raw_str,
@@ -100,7 +100,8 @@ fn every_text_of_four_bytes_as_rust_says() {
 
 #[test]
 fn lists() {
-    let many: Vec<u32> = (0..2049).flat_map(|n| [0x3400 + 4 * n, 0x3400 + 4 * n]).collect();
+    let pairs = 0x10000..0x10000 + 4 * (MAX_PAIRS as u32 + 1);
+    let many: Vec<u32> = pairs.step_by(4).flat_map(|low| [low, low + 1]).collect();
     let bad: [(&[u32], usize); 9] = [
         (&[0x41, 0x5A], 0),
         (&[0x100], 0),
@@ -110,7 +111,7 @@ fn lists() {
         (&[0x80, 0x84, 0x85, 0x85], 1),
         (&[0xD7FF, 0xD800], 0),
         (&[0xE000, 0x110000], 0),
-        (&many, 2048),
+        (&many, MAX_PAIRS),
     ];
     for (list, pair) in bad {
         let cases = [
@@ -148,8 +149,8 @@ fn lists() {
         let all = Lists { id_start: list, id_continue: &[1, 0], emoji: &[1] };
         assert_eq!(check("", &all), Err(Refusal::List { list: ListName::IdStart, pair }));
     }
-    let last = &many[..4096];
-    assert_eq!(check("", &Lists { id_start: last, id_continue: last, emoji: last }), Ok(()));
+    let most = &many[..2 * MAX_PAIRS];
+    assert_eq!(check("", &Lists { id_start: most, id_continue: most, emoji: most }), Ok(()));
 }
 
 #[test]

@@ -13,3 +13,4 @@ pub mod Agreeing
 pub mod Mark
 pub mod Needed
 pub mod Keys
+pub mod Alike

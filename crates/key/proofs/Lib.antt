@@ -8,3 +8,4 @@ pub mod Valids
 pub mod Canonical
 pub mod Agreed
 pub mod Limit
+pub mod Alike

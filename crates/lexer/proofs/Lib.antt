@@ -4,3 +4,4 @@ mod Numbering
 pub mod Records
 pub mod Answers
 pub mod Walks
+pub mod Alike

@@ -1,2 +1,3 @@
 mod Lent
 pub mod Answers
+pub mod Alike

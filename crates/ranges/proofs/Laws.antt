@@ -40,7 +40,7 @@ left : (t : Bool) (k : ℕ) (f : Flaw) → pick t (Pair k) f ≡ Nowhere → (t 
 left true k f e = let z : _≡_ {A = ℕ} 0 1 = cc in absurd (omega arith)
 left false k f e = (refl, e)
 
-right : (t : Bool) (f : Flaw) (k : ℕ) → pick t f (Pair k) ≡ Nowhere → (t ≡ true) × (f ≡ Nowhere)
+pub right : (t : Bool) (f : Flaw) (k : ℕ) → pick t f (Pair k) ≡ Nowhere → (t ≡ true) × (f ≡ Nowhere)
 right true f k e = (refl, e)
 right false f k e = let z : _≡_ {A = ℕ} 0 1 = cc in absurd (omega arith)
 

@@ -7,6 +7,7 @@ use lib.ListN.{length, getD, drop, length-drop}
 use lib.Seq.{drop-cons}
 use borrow.Author.Tests.{not-true, not-false, ltb-true, leb-true, lt-ltb, le-ltb, le-leb}
 use lib.Dec.{ltb, leb}
+use native.Mathlib.Nat.{le-refl}
 use native.Mathlib.Numerals.{add-one}
 use native.Mathlib.Omega.{arith}
 use Rattle.basics.specs.Choice.{pick}
@@ -22,13 +23,13 @@ refuted : (t : Bool) → (t ≡ true → ⊥) → false ≡ t
 refuted true h = absurd (h refl)
 refuted false h = refl
 
--- a pair that covers one of some points covers one of more
-meets-more : (f l first last low high : ℕ) → f ≤ first → last ≤ l → meets first last low high ≡ true → meets f l low high ≡ true
+-- a pair that covers one of some points: a longer pair covers one of more points
+meets-more : (f l from to first last low high : ℕ) → f ≤ first → last ≤ l → from ≤ low → high ≤ to → meets first last low high ≡ true → meets f l from to ≡ true
 unfolding meets
-meets-more f l first last low high p q e =
+meets-more f l from to first last low high p q u v e =
     let a = leb-true low last (and-1 _ _ e) in
     let b = leb-true first high (and-2 (leb low last) _ e) in
-    rw (le-leb low l (omega arith), le-leb f high (omega arith))
+    rw (le-leb from l (omega arith), le-leb f to (omega arith))
 
 -- `clear`, as facts
 pub record Clear (low high : ℕ) : Type 0 where
@@ -49,6 +50,24 @@ clear-true low high e =
       separators = not-true _ (and-2 (not (meets 0x200E 0x200F low high)) _ g);
     }
 
+-- a part of a clear pair is clear
+clear-part : (from to low high : ℕ) → from ≤ low → high ≤ to → clear from to ≡ true → clear low high ≡ true
+unfolding clear
+clear-part from to low high p q e = rw (apart 0xD800 0xDFFF (c .surrogates), apart 0x85 0x85 (c .next-line), apart 0x200E 0x200F (c .marks), apart 0x2028 0x2029 (c .separators)) refl
+  where
+    c : Clear from to
+    c = clear-true from to e
+
+    apart : (first last : ℕ) → meets first last from to ≡ false → meets first last low high ≡ false
+    apart first last n =
+        sym
+        (refuted
+        _
+        (λ (t : meets first last low high ≡ true).
+        let m = meets-more first last from to first last low high (le-refl first) (le-refl last) p q t in
+        let z : _≡_ {A = ℕ} 0 1 = cc in
+        omega arith))
+
 -- a pair that covers a forbidden point is not clear
 module _ (first last low high : ℕ) {a : Bool} (p : a ≡ meets first last low high) (t : a ≡ true) where
   covers : (f l : ℕ) → f ≤ first → last ≤ l → (Clear low high → meets f l low high ≡ false) → false ≡ clear low high
@@ -56,7 +75,7 @@ module _ (first last low high : ℕ) {a : Bool} (p : a ≡ meets first last low 
       refuted
       _
       (λ (e : clear low high ≡ true).
-      let m = meets-more f l first last low high h k (sym p ∙ t) in
+      let m = meets-more f l low high first last low high h k (le-refl low) (le-refl high) (sym p ∙ t) in
       let n = none (clear-true low high e) in
       let z : _≡_ {A = ℕ} 0 1 = cc in
       omega arith)
@@ -105,6 +124,12 @@ pair-not p low high h = refuted _ (λ (e : goodPair p low high ≡ true). h (pai
 pub pair-last : (p low high : ℕ) {r : Bool} → low ≤ high → high ≤ 0x10FFFF → 0x80 ≤ low → p < low → r ≡ clear low high → r ≡ goodPair p low high
 unfolding goodPair
 pair-last p low high a b c d e = rw (le-leb low high a, le-leb high 0x10FFFF b, le-leb 0x80 low c, lt-ltb p low d) e
+
+-- a part of a pair that obeys the rules obeys them, after whatever lies below it
+pub pair-part : (p from to q low high : ℕ) → goodPair p from to ≡ true → from ≤ low → low ≤ high → high ≤ to → q < low → goodPair q low high ≡ true
+pair-part p from to q low high e a b c d =
+    let f = pair-true p from to e in
+    sym (pair-last q low high b (omega arith) (omega arith) d (sym (clear-part from to low high a c (f .free))))
 
 -- the list from pair k on
 pub pair-at : (l : List ℕ) (k : ℕ) → k < length l / 2

@@ -25,6 +25,10 @@ no-more (suc f) zero (suc m) n p q = absurd (omega arith)
 no-more (suc f) (suc g) (suc m) zero p q = absurd (omega arith)
 no-more (suc f) (suc g) (suc m) (suc n) p q = omega (arith, no-more f g (suc m / 2) (suc n / 2) (omega arith) (omega arith))
 
+pub no-more-turns : {m n : ℕ} → m ≤ n → turns m ≤ turns n
+unfolding turns
+no-more-turns {m} {n} p = no-more m n m n p (omega arith)
+
 -- a turn that leaves at most half takes one off
 pub fewer : (m n : ℕ) → 0 < n → m ≤ n / 2 → turns m < turns n
 unfolding turns halvings

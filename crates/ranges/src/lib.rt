@@ -6,8 +6,8 @@ ghost use Rattle.ranges.specs.Search.{inPairs};
 use refusal::Bad;
 use refusal::Verdict;
 
-// The most pairs that a list may have. It stands here alone: code and contracts read it.
-pub const MAX_PAIRS: usize = 2048;
+// The most pairs that a list may have. It stands here alone: code and contracts read it, and proofs/Limit says which number it is.
+pub const MAX_PAIRS: usize = 8192;
 
 // Where a list breaks a rule: nowhere, or at the pair of this index.
 enum Flaw {

@@ -127,11 +127,11 @@ fn steps(
     t
 }
 
-// Zeros for a list. Only the length is promised, so that no proof unfolds the zeros.
-fn list_room() -> [u32; 4200]
-    ensures { λ r. ⌜ 4200 ≡ length r ⌝ }
+// Zeros for a list: as many as a whole file has numbers, so that no list in a file has more. Only the length is promised, so that no proof unfolds the zeros.
+fn list_room() -> [u32; 65536]
+    ensures { λ r. ⌜ 65536 ≡ length r ⌝ }
 {
-    [0; 4200]
+    [0; 65536]
 }
 
 // The vectors of a section, with the lists that stand in three parts of the file.

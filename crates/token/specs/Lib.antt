@@ -1,5 +1,6 @@
 pub mod Names
 pub mod Lists
+pub mod Alike
 pub mod Shapes
 pub mod Kinds
 pub mod Literals
