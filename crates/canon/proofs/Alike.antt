@@ -1,9 +1,8 @@
 -- LISTS THAT HOLD THE SAME POINTS GIVE THE SAME KEY: a text means the same with them, and has its first broken token at the same place.
+use Prim.Native.Nat.{ℕ}
 use mathlib.Core.Path.{_≡_, ap}
 use mathlib.Core.Bool.{false}
 use mathlib.Core.List.{List}
-use Prim.Native.Nat.{ℕ}
-use Rattle.eaters.specs.Find.{Place}
 use Rattle.token.specs.Lists.{Lists}
 use Rattle.token.specs.Alike.{Alike}
 use Rattle.token.proofs.Alike.{same-records}

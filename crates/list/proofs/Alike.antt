@@ -1,13 +1,12 @@
 -- LISTS THAT HOLD THE SAME POINTS, said of the list call: where both choices of lists are taken, it answers the same and leaves the same records.
 use Prim.Native.Nat.{ℕ}
-use mathlib.Core.Path.{_≡_, refl, sym, _∙_}
+use mathlib.Core.Path.{_≡_, refl, _∙_}
 use mathlib.Core.Bool.{Bool}
 use mathlib.Core.List.{List}
 use lib.ListN.{length}
 use Rattle.token.specs.declared.Token.{Token}
 use Rattle.token.specs.Lists.{Lists}
 use Rattle.token.specs.Alike.{Alike}
-use Rattle.token.specs.Tokens.{records}
 use Rattle.token.proofs.Alike.{same-records}
 use Rattle.lexer.specs.Taken.{Taken}
 use Rattle.lexer.proofs.Alike.{same-verdict}

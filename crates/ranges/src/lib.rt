@@ -100,7 +100,7 @@ pub fn check_list(which: usize, list: &[u32]) -> Verdict
 }
 
 // Whether a pair of a good list holds c. The range is halved: the pairs before `begin` lie below c, those from `end` on above it. A turn leaves at most
-// half of the pairs between them, so that fewer than 2^k pairs take at most k turns (proofs/Turns; in numbers, proofs/Limit).
+// half of the pairs between them, so that fewer than 2^k pairs take at most k turns (proofs/Turns; of a list that was let through, proofs/Limit).
 pub fn in_pairs(c: u32, list: &[u32]) -> bool
     requires { ⌜ Good (now list) ⌝ }
     ensures { λ r. ⌜ r ≡ inPairs c (now (list .entry)) ⌝ }

@@ -1,7 +1,7 @@
 -- LISTS THAT HOLD THE SAME POINTS GIVE THE SAME TOKENS. The book asks a list one question, whether it holds a character, so the classes of a character are all
 -- that a rule sees of it.
 use Prim.Native.Nat.{ℕ, zero, suc, pred}
-use mathlib.Core.Path.{_≡_, refl, ap, fun-ext, _∙_}
+use mathlib.Core.Path.{_≡_, refl, ap}
 use mathlib.Core.Bool.{Bool, false}
 use mathlib.Core.List.{List, [], _∷_}
 use lib.Dec.{ltb}
@@ -9,7 +9,6 @@ use Rattle.basics.specs.Choice.{pick, or}
 use Rattle.classes.specs.Identifiers.{idStart, idContinue, letter, digit, underscore}
 use Rattle.classes.specs.Emoji.{emojiChar}
 use Rattle.text.specs.Chars.{chars}
-use Rattle.token.specs.declared.Token.{Token}
 use Rattle.token.specs.Lists.{Lists, starting, going, smiling}
 use Rattle.token.specs.Alike.{Alike}
 use Rattle.token.specs.Names.{is, 'joiner', '-', 'dot'}
@@ -17,7 +16,7 @@ use Rattle.token.specs.Words.{inInvalid}
 use Rattle.token.specs.Lifetimes.{naming}
 use Rattle.token.specs.Frontmatter.{inInfostring}
 use Rattle.token.specs.Advance.{decided, advance}
-use Rattle.token.specs.Tokens.{Piece, tokensAfter, tokens, placed, records}
+use Rattle.token.specs.Tokens.{tokensAfter, tokens, placed, records}
 
 module _ (L M : Lists) (a : Alike L M) where
   -- the classes
