@@ -4,8 +4,8 @@ mod common;
 
 use common::{by_rust, every_call_refuses};
 use lovemudarn::{
-    Cause, Cursor, FrontmatterAllowed::No, ListName, Lists, MAX_PAIRS, Refusal, Run, advance_token, check,
-    guarded_double_quoted_string, is_emoji_char, is_id_continue, is_id_start, is_ident, key,
+    Cause, Cursor, FrontmatterAllowed::No, ListName, Lists, MAX_PAIRS, Refusal, Run, advance_token,
+    check, guarded_double_quoted_string, is_emoji_char, is_id_continue, is_id_start, is_ident, key,
     key_into, needs_lists, strip_shebang, token_of, tokenize, tokenize_into, tokens_from,
     validate_raw_str,
 };
