@@ -195,7 +195,7 @@ pub fn advance_token(
 /// Two texts have the same key exactly if their other tokens are the same, in the same order and
 /// separated at the same places: the tokens that these lists give. **With [`Lists::EMPTY`] they may be
 /// others than rustc's, and a change may be missed: key a text so only where [`needs_lists`] finds no place
-/// in it.** Keys of different lists are not comparable.
+/// in it.** Keys of lists that hold different code points are not comparable.
 ///
 /// Refused are 1, 3, 2, and 6 where a literal or a block comment is broken.
 pub fn key(text: impl AsRef<[u8]>, lists: &Lists) -> Result<Vec<u8>, Refusal> {
