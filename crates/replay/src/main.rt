@@ -127,7 +127,8 @@ fn steps(
     t
 }
 
-// Zeros for a list: as many as a whole file has numbers, so that no list in a file has more. Only the length is promised, so that no proof unfolds the zeros.
+// Zeros for a list: as many as a whole file has numbers, so that no list in a file has more. Only the length is promised, so that no proof unfolds
+// the zeros.
 fn list_room() -> [u32; 65536]
     ensures { λ r. ⌜ 65536 ≡ length r ⌝ }
 {
