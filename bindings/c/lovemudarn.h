@@ -11,7 +11,7 @@
  * LISTS. `starts`, `continues` and `emoji` are the code points from 0x80 on that start an identifier, go on in one, and are emoji: a low and a high code
  * point in turn, both included. Rules: at most LOVEMUDARN_MAX_PAIRS pairs; an even count of numbers; low <= high <= 0x10FFFF; low >= 0x80; each low above
  * the high before it; no pair covers a surrogate, U+0085, U+200E, U+200F, U+2028 or U+2029. AN EMPTY LIST (count 0) is a good list: then no character from
- * 0x80 on is in that class. Below 0x80 the lists have no say. Pairs may adjoin: only what a list holds counts, not how it is cut into pairs.
+ * 0x80 on is in that class. Below 0x80 the lists have no say. Pairs may adjoin: lists that hold the same code points give the same tokens and keys.
  *
  * FLAGS. A `bool` that goes in must be true or false (1 or 0). `on` says whether frontmatter may stand at the position: true at the start of a file, false
  * in the middle of one.

@@ -1,4 +1,5 @@
-/* Calls every export, and compares what comes back with what documents 01 and 02 and the Rust say: every number below is written by hand.
+/* Calls every export, and compares what comes back with what documents 01 and 02 and the Rust say: every number below is written by hand,
+ * but for the header's most pairs of a list, which is held against what the archive refuses.
  * It is built without a header of the system; the last line says how many checks there were, and how many failed. */
 #include "lovemudarn.h"
 
