@@ -10,7 +10,7 @@ use refusal::Verdict;
 pub const MAX_PAIRS: usize = 8192;
 
 // Where a list breaks a rule: nowhere, or at the pair of this index.
-enum Flaw {
+pub enum Flaw {
     Nowhere,
     Pair(usize),
 }
@@ -39,7 +39,7 @@ fn clear(low: u32, high: u32) -> bool
 }
 
 // Whether a pair obeys the rules after a pair that ends at `previous` (0 before the first one).
-fn good_pair(previous: u32, low: u32, high: u32) -> bool
+pub fn good_pair(previous: u32, low: u32, high: u32) -> bool
     ensures { λ r. ⌜ r ≡ goodPair previous low high ⌝ }
 {
     if high < low {

@@ -1,0 +1,5 @@
+pub mod Cuts
+pub mod Words
+pub mod Values
+pub mod Numerals
+pub mod Puts

@@ -1,0 +1,5 @@
+pub mod Readings
+pub mod Texts
+pub mod Loads
+pub mod RoundTrip
+pub mod FirstBad

@@ -1,0 +1,5 @@
+pub mod Names
+pub mod File
+pub mod Lines
+pub mod Load
+pub mod Verdicts

@@ -1,0 +1,46 @@
+-- `lists_in::read_numbers` meets its contract: by its cases (Judgements).
+use Rattle.lists_in.proofs.Judgements.{numbers-at}
+use borrow.Author.Needs.{needs}
+use Rattle.lists_in.proofs.read_numbers.Statement.{statement}
+use Rattle.lists_in.proofs.read_numbers.Tie as tie
+
+enum-told : tie.Need-enum-told
+enum-told c = search needs
+
+enum-known-answer : tie.Need-enum-known-answer
+enum-known-answer c = search needs
+
+enum-known-answer-2 : tie.Need-enum-known-answer-2
+enum-known-answer-2 c = search needs
+
+enum-known-answer-3 : tie.Need-enum-known-answer-3
+enum-known-answer-3 c = search needs
+
+bad-numbers-requires : tie.Need-bad-numbers-requires
+bad-numbers-requires c κs = search needs
+
+returns : tie.Need-returns
+returns c = search numbers-at
+
+returns-2 : tie.Need-returns-2
+returns-2 c = search numbers-at
+
+returns-3 : tie.Need-returns-3
+returns-3 c = search numbers-at
+
+returns-4 : tie.Need-returns-4
+returns-4 c = search needs
+
+pub read-numbers-spec : {M : Type 1} → statement M
+read-numbers-spec =
+    tie.close
+    (tie.spec
+    enum-told
+    enum-known-answer
+    enum-known-answer-2
+    enum-known-answer-3
+    bad-numbers-requires
+    returns
+    returns-2
+    returns-3
+    returns-4)

@@ -1,0 +1,4 @@
+pub mod Tallies
+pub mod Surveys
+pub mod Fills
+pub mod Answers
