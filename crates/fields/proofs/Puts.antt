@@ -6,8 +6,8 @@ use mathlib.Core.List.{List, [], _∷_, _++_}
 use mathlib.Core.Logic.{⊎-elim}
 use borrow.Author.Tests.{lt-ltb, le-ltb}
 use lib.Dec.{ltb}
-use lib.ListN.{length, take}
-use native.Mathlib.Nat.{pow-suc, pow-zero, pow-le-pow-right, mod-eq-of-lt, div-lt-iff-lt-mul, le-div-iff-mul-le, mul-le-mul-left, mul-le-mul-right}
+use lib.ListN.{length, take, length-append}
+use native.Mathlib.Nat.{pow-suc, pow-zero, mod-eq-of-lt, div-lt-iff-lt-mul, le-div-iff-mul-le, mul-le-mul-left, mul-le-mul-right}
 use native.Mathlib.Omega.{arith}
 use Rattle.basics.specs.Choice.{pick}
 use Rattle.basics.proofs.Choices.{below-or-not}
@@ -68,15 +68,30 @@ module _ {base : ℕ} (b : Base base) where
   the-numeral n k f = fewest-digits k (suc n) n (few-turns n k f) f
 
   -- a number below a power has at most as many digits as the exponent says
-  pub few-digits : (most n k : ℕ) → n < base ^ most → 0 < most → Fewest base 1 n k → k ≤ most
-  few-digits most n k h o f = ⊎-elim (λ (more : most < k). absurd (over more)) (λ (l : k ≤ most). l) (below-or-not most k)
+  few-last : (k most n : ℕ) → n < base ^ suc k → length (lastDigits base most n) ≤ suc k
+  few-last k zero n h = omega arith
+  few-last zero (suc most) n h =
+      let p : base ^ 1 ≡ base = pow-suc base 0 ∙ ap (λ (x : ℕ). x * base) (pow-zero base) ∙ omega arith in
+      let l : n < base = omega arith in
+      rw (lt-ltb n base l) (omega arith)
+  few-last (suc k) (suc most) n h =
+      ⊎-elim
+      (λ (l : n < base). rw (lt-ltb n base l) (omega arith))
+      (λ (l : base ≤ n). rw (le-ltb n base l) (more (few-last k most (n / base) divided)))
+      (below-or-not n base)
     where
-      over : most < k → ⊥
-      over more =
-          let u : most ≤ k - 1 = omega arith in
-          let p : base ^ most ≤ base ^ (k - 1) = pow-le-pow-right (omega (arith, b .least)) u in
-          let l : base ^ (k - 1) ≤ n = f .2 (omega arith) in
-          omega arith
+      divided : n / base < base ^ suc k
+      divided =
+          let z : 0 < base = omega (arith, b .least) in
+          let m : n < base ^ suc k * base = omega (arith, pow-suc base (suc k)) in
+          div-lt-iff-lt-mul z .1 m
+
+      more : length (lastDigits base most (n / base)) ≤ suc k → length (lastDigits base most (n / base) ++ (digitByte (n % base) ∷ [])) ≤ suc (suc k)
+      more f = omega (arith, length-append (lastDigits base most (n / base)) (digitByte (n % base) ∷ []))
+
+  pub few-digits : (k n : ℕ) → n < base ^ suc k → length (numeral base n) ≤ suc k
+  unfolding numeral
+  few-digits k n h = few-last k (suc n) n h
 
   -- DIGITS THAT WERE MADE: there is room for them, and put they are the number
   module _ (n k : ℕ) (t : List ℕ) (f : Fewest base 1 n k) (d : take k t ≡ digits base k n) where

@@ -1,12 +1,9 @@
 // The lines of the tokens of a text, put into a lent buffer part by part.
 ghost use Prim.Native.Nat.{_≤_};
-ghost use mathlib.Core.Path.{_≡_};
 ghost use lib.ListN.{length};
-ghost use Rattle.token.specs.Lists.{none};
+ghost use Rattle.token.specs.Lists.{lent};
 ghost use Rattle.lexer.specs.Checked.{Checked};
-ghost use Rattle.lexer.specs.Steps.{nextOf};
 ghost use Rattle.lines.specs.Filled.{Filled};
-use lexer::Scan;
 
 // The position past the last token whose line was put, and the bytes that were put.
 pub struct Chunk {
@@ -14,25 +11,23 @@ pub struct Chunk {
     pub used: usize,
 }
 
-// The scan past a scan, with empty lists.
-fn step(text: &[u8], c: Scan) -> Scan
-    requires { ⌜ Checked (now text) none ⌝ }
-    ensures { λ r. ⌜ r ≡ nextOf none (now (text .entry)) c ⌝ }
-{
-    let empty = [0u32; 0];
-    lexer::step(text, &empty, &empty, &empty, c)
-}
-
 // Lines of the tokens from a position on, with frontmatter off, as many as are sure to fit into out. Eof has no length and no line: the loop ends
 // there.
-pub fn fill(text: &[u8], at: usize, out: &mut [u8]) -> Chunk
-    requires { ⌜ Checked (now text) none × (33 ≤ length (now out)) ⌝ }
-    ensures { λ r. ⌜ Filled (now (text .entry)) at (now (out .entry)) (now (out .exit)) r ⌝ }
+pub fn fill(
+    text: &[u8],
+    starts: &[u32],
+    continues: &[u32],
+    emoji: &[u32],
+    at: usize,
+    out: &mut [u8],
+) -> Chunk
+    requires { ⌜ Checked (now text) (lent (now starts) (now continues) (now emoji)) × (33 ≤ length (now out)) ⌝ }
+    ensures { λ r. ⌜ Filled (lent (now (starts .entry)) (now (continues .entry)) (now (emoji .entry))) (now (text .entry)) at (now (out .entry)) (now (out .exit)) r ⌝ }
 {
     let mut scan = lexer::before(at, false);
     let mut used = 0;
     while 33 <= out.len() - used {
-        let past = step(text, scan);
+        let past = lexer::step(text, starts, continues, emoji, scan);
         let token = past.token;
         if token.len == 0 {
             break;

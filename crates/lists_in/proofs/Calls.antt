@@ -219,3 +219,32 @@ module _ {s : List ℕ} {f : Found} {h : Held} {ra rb rc : ℕ} (y : Ready s f h
             continues-hold = continues-put .holds ∙ ap (λ (x : Lists). x .continues ++ drop (length (x .continues)) b) l;
             emoji-hold = emoji-put .holds ∙ ap (λ (x : Lists). x .emoji ++ drop (length (x .emoji)) c) l;
           }
+
+-- WHAT WAS LOADED lies within the runs
+pub record Lies (h : Held) (a b c : List ℕ) : Type 0 where
+  pub in-starts : h .starts ≤ length a
+  pub in-continues : h .continues ≤ length b
+  pub in-emoji : h .emoji ≤ length c
+
+counted-by : (limit : ℕ) (rooms : Counts) (q : Read) {h : Held} → readOf limit rooms q ≡ Loaded h → (h .starts ≡ length (listsIn q .starts)) × ((h .continues ≡ length (listsIn q .continues)) × (h .emoji ≡ length (listsIn q .emoji)))
+counted-by limit rooms (badLine k) e = let z : _≡_ {A = ℕ} 0 1 = cc in absurd (omega arith)
+counted-by limit rooms (loaded v L) {h} e = by-verdict (listsVerdict limit L) e
+  where
+    by-verdict : (x : Verdict) → refusedOr Refused x (roomedFor v (countsOf L) rooms) ≡ Loaded h → (h .starts ≡ length (L .starts)) × ((h .continues ≡ length (L .continues)) × (h .emoji ≡ length (L .emoji)))
+    by-verdict verdict.Fine k =
+        let m : h ≡ heldOf v (countsOf L) = room-told v (countsOf L) rooms k .held in
+        (ap (λ (y : Held). y .starts) m, (ap (λ (y : Held). y .continues) m, ap (λ (y : Held). y .emoji) m))
+    by-verdict (verdict.Refused bad) k = let z : _≡_ {A = ℕ} 0 1 = cc in absurd (omega arith)
+
+pub loaded-lies : {limit : ℕ} {s a b c starts continues emoji : List ℕ} {r : ReadAnswer} {h : Held} → Reading limit s a b c starts continues emoji r → r ≡ Loaded h → Lies h starts continues emoji
+loaded-lies {limit} {s} {a} {b} {c} {h = h} f q =
+    let L : Lists = listsIn (load s) in
+    let n = counted-by limit (counts (length a) (length b) (length c)) (load s) {h = h} (sym (f .answer) ∙ q) in
+    let x = f .starts-hold ∙ ap (λ (y : ReadAnswer). runAfter y (L .starts) a) q in
+    let y = f .continues-hold ∙ ap (λ (z : ReadAnswer). runAfter z (L .continues) b) q in
+    let z = f .emoji-hold ∙ ap (λ (w : ReadAnswer). runAfter w (L .emoji) c) q in
+    record {
+      in-starts = omega (arith, n .0, ap length x, length-append (L .starts) (drop (length (L .starts)) a));
+      in-continues = omega (arith, n .1 .0, ap length y, length-append (L .continues) (drop (length (L .continues)) b));
+      in-emoji = omega (arith, n .1 .1, ap length z, length-append (L .emoji) (drop (length (L .emoji)) c));
+    }

@@ -31,3 +31,15 @@ pub fn say_why(bad: Bad) {
     }
     io::write_all(STDOUT_FILENO, b"\n");
 }
+
+// What a program writes where the file of lists that it reads is refused: `lists`, the number of the refusal and the two numbers beside it, separated by
+// tabs, as a line. No key and no line of a token begins so.
+pub fn say_lists(n: Numbers) {
+    io::write_all(STDOUT_FILENO, b"lists\t");
+    io::print_decimal(STDOUT_FILENO, n.number as u64);
+    io::write_all(STDOUT_FILENO, b"\t");
+    io::print_decimal(STDOUT_FILENO, n.beside as u64);
+    io::write_all(STDOUT_FILENO, b"\t");
+    io::print_decimal(STDOUT_FILENO, n.second as u64);
+    io::write_all(STDOUT_FILENO, b"\n");
+}

@@ -2,19 +2,9 @@
 ghost use Prim.Native.Nat.{_+_, _≤_};
 ghost use lib.ListN.{length};
 ghost use Rattle.token.specs.Kinds.{kindName};
-ghost use Rattle.token_line.specs.Line.{decimalBytes, line};
+ghost use Rattle.token_line.specs.Line.{line};
 ghost use Rattle.puts.specs.Put.{PutFew};
 use token::TokenKind;
-
-// A number in decimal. A u32 has at most ten digits.
-fn put_decimal(out: &mut [u8], at: usize, n: u32) -> usize
-    requires { ⌜ at + 10 ≤ length (now out) ⌝ }
-    ensures { λ r. ⌜ PutFew 10 (decimalBytes n) (now (out .entry)) at (now (out .exit)) r ⌝ }
-{
-    let mut text = [0u8; 20];
-    let k = io::decimal(n as u64, &mut text);
-    puts::put_bytes(out, at, &text[..k])
-}
 
 // The names of the kinds, one after the other in the order of 000, and where each starts; the last number is the end.
 const NAMES: [u8; 322] =
@@ -87,6 +77,6 @@ pub fn put_line(out: &mut [u8], at: usize, kind: TokenKind, len: u32) -> usize
 {
     let tab = put_name(out, at, kind);
     let digits = puts::put_byte(out, tab, 9);
-    let end = put_decimal(out, digits, len);
+    let end = fields::put_decimal(out, digits, len);
     puts::put_byte(out, end, 10)
 }

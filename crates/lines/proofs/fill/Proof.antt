@@ -2,15 +2,16 @@
 use Rattle.lines.proofs.Filling.{Filling, filling-starts, fewer, turned, full-out, end-out}
 use lib.ListN.{length, drop}
 use Rattle.text.specs.Chars.{chars}
+use Rattle.token.specs.Lists.{lent}
 use borrow.Author.Needs.{needs}
 use Rattle.lines.proofs.fill.Statement.{statement}
 use Rattle.lines.proofs.fill.Tie as tie
 
 abbrev Inv-loop : tie.InvT-loop
-Inv-loop text at out₀ scan₀ used₀ out scan used = Filling text at out₀ out scan used
+Inv-loop text starts continues emoji at out₀ scan₀ used₀ out scan used = Filling (lent starts continues emoji) text at out₀ out scan used
 
 abbrev μ-loop : tie.MeasureT-loop
-μ-loop text at out₀ scan₀ used₀ out scan used = length (chars (drop (scan .next) text))
+μ-loop text starts continues emoji at out₀ scan₀ used₀ out scan used = length (chars (drop (scan .next) text))
 
 before-requires : tie.Need-before-requires Inv-loop μ-loop
 before-requires c κs = search needs

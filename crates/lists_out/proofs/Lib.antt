@@ -1,0 +1,5 @@
+mod Lines
+mod Groups
+mod Calls
+pub mod Fits
+pub mod Answers
