@@ -9,9 +9,11 @@ use Rattle.exports.specs.declared.TokenAnswer.{TokenAnswer}
 use Rattle.exports.specs.declared.RawStrAnswer.{RawStrAnswer}
 use Rattle.exports.specs.declared.GuardedStrAnswer.{GuardedStrAnswer}
 use Rattle.exports.specs.declared.RunAnswer.{RunAnswer}
+use Rattle.exports.specs.declared.ListsAnswer.{ListsAnswer}
 use Rattle.exports.specs.Shebangs.{StrippedOut}
 use Rattle.exports.specs.Buffers.{TokensOut, KeyOut}
 use Rattle.exports.specs.Runs.{RunOut}
+use Rattle.exports.specs.Files.{ListsOut, FileOut}
 use Rattle.exports.proofs.lovemudarn_check.Reads as check
 use Rattle.exports.proofs.lovemudarn_token.Reads as token
 use Rattle.exports.proofs.lovemudarn_is_ident.Reads as ident
@@ -46,6 +48,26 @@ module _ {limit : ℕ} {s before after later : List ℕ} {L : Lists} {r q : Answ
 
   pub one-key-buffer : after ≡ later
   one-key-buffer = f .holds ∙ sym (g .holds)
+
+module _ {limit : ℕ} {file a b c starts continues emoji s t u : List ℕ} {r q : ListsAnswer} (f : ListsOut limit file a b c starts continues emoji r) (g : ListsOut limit file a b c s t u q) where
+  pub one-lists-answer : r ≡ q
+  one-lists-answer = f .answer ∙ sym (g .answer)
+
+  pub one-starts-run : starts ≡ s
+  one-starts-run = f .starts-hold ∙ sym (g .starts-hold)
+
+  pub one-continues-run : continues ≡ t
+  one-continues-run = f .continues-hold ∙ sym (g .continues-hold)
+
+  pub one-emoji-run : emoji ≡ u
+  one-emoji-run = f .emoji-hold ∙ sym (g .emoji-hold)
+
+module _ {limit major minor update : ℕ} {L : Lists} {before after later : List ℕ} {r q : Answer} (f : FileOut limit major minor update L before after r) (g : FileOut limit major minor update L before later q) where
+  pub one-file-answer : r ≡ q
+  one-file-answer = f .answer ∙ sym (g .answer)
+
+  pub one-file-buffer : after ≡ later
+  one-file-buffer = f .holds ∙ sym (g .holds)
 
 pub one-check : (κs : _) (a : _) (r q : Answer) (x y : _) → check.Post κs a r x → check.Post κs a q y → r ≡ q
 one-check κs a r q x y p e = p ∙ sym e

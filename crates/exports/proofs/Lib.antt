@@ -4,3 +4,4 @@ pub mod Goings
 pub mod Blocks
 pub mod Shebangs
 pub mod Answers
+pub mod Files

@@ -6,3 +6,4 @@ pub mod Shebangs
 pub mod Buffers
 pub mod Runs
 pub mod Going
+pub mod Files

@@ -8,6 +8,8 @@ ghost use Rattle.classes.specs.Answers.{answerNumbers, idStartAnswer, idContinu
 ghost use Rattle.refusal.specs.Numbers.{verdictNumbers};
 ghost use Rattle.token.specs.Lists.{lent};
 ghost use Rattle.lexer.specs.Answers.{tokenVerdict, oneToken};
+ghost use Rattle.lists_file.specs.Lines.{version};
+ghost use Rattle.lists_file.specs.File.{VersionFits};
 ghost use Rattle.strings.specs.RawChecks.{rawAnswer};
 ghost use Rattle.strings.specs.Guards.{guardedAnswer};
 ghost use Rattle.exports.specs.Answers.{answerOf};
@@ -18,8 +20,12 @@ ghost use Rattle.exports.specs.Shebangs.{StrippedOut};
 ghost use Rattle.exports.specs.Buffers.{TokensOut, KeyOut};
 ghost use Rattle.exports.specs.Runs.{noRun, ranOut, RunOut};
 ghost use Rattle.exports.specs.Going.{Going, RunPut};
+ghost use Rattle.exports.specs.Files.{noLists, heldOut, listsOut, ListsOut, isVersion, FileOut};
 use lexer::OneToken;
 use lexer::Scan;
+use lists_file::Version;
+use lists_in::Held;
+use lists_in::ReadAnswer;
 use refusal::Numbers;
 use refusal::Verdict;
 use strings::GuardedAnswer;
@@ -91,6 +97,20 @@ pub struct GuardedStrAnswer {
     pub terminated: bool,
     pub token_len: u32,
     pub next: usize,
+}
+
+// The answer of the reader of a file of lists. Done: 0, 0, 0, the version, and how many numbers each run now holds. Refused: every number past the third is 0.
+#[repr(C)]
+pub struct ListsAnswer {
+    pub number: u32,
+    pub beside: usize,
+    pub second: usize,
+    pub major: u32,
+    pub minor: u32,
+    pub update: u32,
+    pub starts: usize,
+    pub continues: usize,
+    pub emoji: usize,
 }
 
 fn answer_of(n: Numbers) -> Answer
@@ -325,6 +345,77 @@ fn guarded_out(answer: GuardedAnswer) -> GuardedStrAnswer
     }
 }
 
+// A refused reader.
+fn no_lists(n: Numbers) -> ListsAnswer
+    ensures { λ r. ⌜ r ≡ noLists n ⌝ }
+{
+    ListsAnswer {
+        number: n.number,
+        beside: n.beside,
+        second: n.second,
+        major: 0,
+        minor: 0,
+        update: 0,
+        starts: 0,
+        continues: 0,
+        emoji: 0,
+    }
+}
+
+// What was loaded.
+fn held_out(n: Numbers, held: Held) -> ListsAnswer
+    ensures { λ r. ⌜ r ≡ heldOut n held ⌝ }
+{
+    let version = held.version;
+    ListsAnswer {
+        number: n.number,
+        beside: n.beside,
+        second: n.second,
+        major: version.major as u32,
+        minor: version.minor as u32,
+        update: version.update as u32,
+        starts: held.starts,
+        continues: held.continues,
+        emoji: held.emoji,
+    }
+}
+
+fn read_out(answer: ReadAnswer) -> ListsAnswer
+    ensures { λ r. ⌜ r ≡ listsOut answer ⌝ }
+{
+    let n = lists_in::read_numbers(answer);
+    match answer {
+        ReadAnswer::Loaded(held) => held_out(n, held),
+        ReadAnswer::Line(_) => no_lists(n),
+        ReadAnswer::Room(_, _) => no_lists(n),
+        ReadAnswer::Refused(_) => no_lists(n),
+    }
+}
+
+// Whether the numbers of a version are such as a file can have.
+fn is_version(major: u32, minor: u32, update: u32) -> bool
+    ensures { λ r. ⌜ r ≡ isVersion major minor update ⌝ }
+{
+    if major <= 65535 {
+        if minor <= 65535 {
+            return update <= 65535;
+        }
+        return false;
+    }
+    false
+}
+
+fn version_of(major: u32, minor: u32, update: u32) -> Version
+    requires { ⌜ VersionFits (version major minor update) ⌝ }
+    ensures { λ r. ⌜ r ≡ version major minor update ⌝ }
+{
+    Version {
+        major: major as u16,
+        minor: minor as u16,
+        update: update as u16,
+    }
+}
+
 // What the token calls check of a text and three lists: 1, 3, 2, or 0.
 #[no_mangle]
 pub extern "C" fn lovemudarn_check(
@@ -411,6 +502,47 @@ pub extern "C" fn lovemudarn_key(
 {
     let answer = key::key(text, starts, continues, emoji, out);
     answer_of(key::key_numbers(answer))
+}
+
+// The version and the lists of a file, the lists in three lent runs: 9 with the first bad line, 3, 7 with the first list for which there is too little room and
+// the numbers it needs, or 0 with the version and how many numbers each run now holds. Only 0 writes.
+#[no_mangle]
+pub extern "C" fn lovemudarn_read_lists(
+    file: &[u8],
+    starts: &mut [u32],
+    continues: &mut [u32],
+    emoji: &mut [u32],
+) -> ListsAnswer
+    ensures { λ r. do ⌜ ListsOut (← ⟦ranges::MAX_PAIRS⟧ .entry) (now (file .entry)) (now (starts .entry)) (now (continues .entry)) (now (emoji .entry)) (now (starts .exit)) (now (continues .exit)) (now (emoji .exit)) r ⌝ }
+{
+    let answer = lists_in::read_lists(file, starts, continues, emoji);
+    read_out(answer)
+}
+
+// The file of a version and three lists: 9 with 0 where a number of the version is over 65,535, 3, 7 with the bytes needed, or 0 with the file's bytes. Only 0
+// writes.
+#[no_mangle]
+pub extern "C" fn lovemudarn_write_lists(
+    major: u32,
+    minor: u32,
+    update: u32,
+    starts: &[u32],
+    continues: &[u32],
+    emoji: &[u32],
+    out: &mut [u8],
+) -> Answer
+    ensures { λ r. do ⌜ FileOut (← ⟦ranges::MAX_PAIRS⟧ .entry) major minor update (lent (now (starts .entry)) (now (continues .entry)) (now (emoji .entry))) (now (out .entry)) (now (out .exit)) r ⌝ }
+{
+    if is_version(major, minor, update) {
+        let version = version_of(major, minor, update);
+        let answer = lists_out::write_lists(version, starts, continues, emoji, out);
+        return answer_of(lists_out::write_numbers(answer));
+    }
+    answer_of(Numbers {
+        number: 9,
+        beside: 0,
+        second: 0,
+    })
 }
 
 // Whether a text is an identifier: 1, 3, 2, or 0 with 1 for yes and 0 for no.

@@ -6,7 +6,7 @@ use mathlib.Core.List.{List, [], _∷_, _++_, append-assoc, append-nil}
 use borrow.Author.Tests.{ltb-false}
 use lib.Dec.{ltb}
 use lib.ListN.{length, take, drop, length-append}
-use lib.Seq.{drop-at, drop-drop}
+use lib.Seq.{take-at, drop-at, drop-drop}
 use native.Mathlib.Omega.{arith}
 use Rattle.basics.specs.Choice.{pick}
 use Rattle.fields.specs.Pieces.{piece}
@@ -220,31 +220,62 @@ module _ {s : List ℕ} {f : Found} {h : Held} {ra rb rc : ℕ} (y : Ready s f h
             emoji-hold = emoji-put .holds ∙ ap (λ (x : Lists). x .emoji ++ drop (length (x .emoji)) c) l;
           }
 
+-- WHAT IS DONE where something was loaded: the file holds the version and the lists, which keep the rules and are in the runs
+pub record Done (limit : ℕ) (s starts continues emoji : List ℕ) (h : Held) : Type 0 where
+  pub lists : Lists
+  pub loads : load s ≡ loaded (h .version) lists
+  pub rules : listsVerdict limit lists ≡ verdict.Fine
+  pub starts-are : take (h .starts) starts ≡ lists .starts
+  pub continues-are : take (h .continues) continues ≡ lists .continues
+  pub emoji-are : take (h .emoji) emoji ≡ lists .emoji
+
+record Full (limit : ℕ) (q : Read) (h : Held) : Type 0 where
+  lists : Lists
+  loads : q ≡ loaded (h .version) lists
+  rules : listsVerdict limit lists ≡ verdict.Fine
+  held : h ≡ heldOf (h .version) (countsOf lists)
+
+full-by : (limit : ℕ) (rooms : Counts) (q : Read) {h : Held} → readOf limit rooms q ≡ Loaded h → Full limit q h
+full-by limit rooms (badLine k) e = let z : _≡_ {A = ℕ} 0 1 = cc in absurd (omega arith)
+full-by limit rooms (loaded v L) {h} e = by-verdict (listsVerdict limit L) refl e
+  where
+    by-verdict : (x : Verdict) → listsVerdict limit L ≡ x → refusedOr Refused x (roomedFor v (countsOf L) rooms) ≡ Loaded h → Full limit (loaded v L) h
+    by-verdict verdict.Fine f k =
+        let m : h ≡ heldOf v (countsOf L) = room-told v (countsOf L) rooms k .held in
+        let u : v ≡ h .version = sym (ap (λ (y : Held). y .version) m) in
+        record { lists = L; loads = ap (λ (y : Version). loaded y L) u; rules = f; held = m ∙ ap (λ (y : Version). heldOf y (countsOf L)) u }
+    by-verdict (verdict.Refused bad) f k = let z : _≡_ {A = ℕ} 0 1 = cc in absurd (omega arith)
+
+pub read-done-told : {limit : ℕ} {s a b c starts continues emoji : List ℕ} {h : Held} → Reading limit s a b c starts continues emoji (Loaded h) → Done limit s starts continues emoji h
+read-done-told {limit} {s} {a} {b} {c} {h = h} f =
+    let d : Full limit (load s) h = full-by limit (counts (length a) (length b) (length c)) (load s) (sym (f .answer)) in
+    let l : listsIn (load s) ≡ d .lists = ap listsIn (d .loads) in
+    record {
+      lists = d .lists;
+      loads = d .loads;
+      rules = d .rules;
+      starts-are = ap (take (h .starts)) (f .starts-hold ∙ ap (λ (y : Lists). y .starts ++ drop (length (y .starts)) a) l) ∙ take-at (d .lists .starts) _ (h .starts) (sym (ap (λ (y : Held). y .starts) (d .held)));
+      continues-are = ap (take (h .continues)) (f .continues-hold ∙ ap (λ (y : Lists). y .continues ++ drop (length (y .continues)) b) l) ∙ take-at (d .lists .continues) _ (h .continues) (sym (ap (λ (y : Held). y .continues) (d .held)));
+      emoji-are = ap (take (h .emoji)) (f .emoji-hold ∙ ap (λ (y : Lists). y .emoji ++ drop (length (y .emoji)) c) l) ∙ take-at (d .lists .emoji) _ (h .emoji) (sym (ap (λ (y : Held). y .emoji) (d .held)));
+    }
+
 -- WHAT WAS LOADED lies within the runs
 pub record Lies (h : Held) (a b c : List ℕ) : Type 0 where
   pub in-starts : h .starts ≤ length a
   pub in-continues : h .continues ≤ length b
   pub in-emoji : h .emoji ≤ length c
 
-counted-by : (limit : ℕ) (rooms : Counts) (q : Read) {h : Held} → readOf limit rooms q ≡ Loaded h → (h .starts ≡ length (listsIn q .starts)) × ((h .continues ≡ length (listsIn q .continues)) × (h .emoji ≡ length (listsIn q .emoji)))
-counted-by limit rooms (badLine k) e = let z : _≡_ {A = ℕ} 0 1 = cc in absurd (omega arith)
-counted-by limit rooms (loaded v L) {h} e = by-verdict (listsVerdict limit L) e
-  where
-    by-verdict : (x : Verdict) → refusedOr Refused x (roomedFor v (countsOf L) rooms) ≡ Loaded h → (h .starts ≡ length (L .starts)) × ((h .continues ≡ length (L .continues)) × (h .emoji ≡ length (L .emoji)))
-    by-verdict verdict.Fine k =
-        let m : h ≡ heldOf v (countsOf L) = room-told v (countsOf L) rooms k .held in
-        (ap (λ (y : Held). y .starts) m, (ap (λ (y : Held). y .continues) m, ap (λ (y : Held). y .emoji) m))
-    by-verdict (verdict.Refused bad) k = let z : _≡_ {A = ℕ} 0 1 = cc in absurd (omega arith)
-
 pub loaded-lies : {limit : ℕ} {s a b c starts continues emoji : List ℕ} {r : ReadAnswer} {h : Held} → Reading limit s a b c starts continues emoji r → r ≡ Loaded h → Lies h starts continues emoji
 loaded-lies {limit} {s} {a} {b} {c} {h = h} f q =
+    let d : Full limit (load s) h = full-by limit (counts (length a) (length b) (length c)) (load s) {h = h} (sym (f .answer) ∙ q) in
     let L : Lists = listsIn (load s) in
-    let n = counted-by limit (counts (length a) (length b) (length c)) (load s) {h = h} (sym (f .answer) ∙ q) in
+    let l : d .lists ≡ L = sym (ap listsIn (d .loads)) in
+    let n : h ≡ heldOf (h .version) (countsOf L) = d .held ∙ ap (λ (y : Lists). heldOf (h .version) (countsOf y)) l in
     let x = f .starts-hold ∙ ap (λ (y : ReadAnswer). runAfter y (L .starts) a) q in
     let y = f .continues-hold ∙ ap (λ (z : ReadAnswer). runAfter z (L .continues) b) q in
     let z = f .emoji-hold ∙ ap (λ (w : ReadAnswer). runAfter w (L .emoji) c) q in
     record {
-      in-starts = omega (arith, n .0, ap length x, length-append (L .starts) (drop (length (L .starts)) a));
-      in-continues = omega (arith, n .1 .0, ap length y, length-append (L .continues) (drop (length (L .continues)) b));
-      in-emoji = omega (arith, n .1 .1, ap length z, length-append (L .emoji) (drop (length (L .emoji)) c));
+      in-starts = omega (arith, ap (λ (w : Held). w .starts) n, ap length x, length-append (L .starts) (drop (length (L .starts)) a));
+      in-continues = omega (arith, ap (λ (w : Held). w .continues) n, ap length y, length-append (L .continues) (drop (length (L .continues)) b));
+      in-emoji = omega (arith, ap (λ (w : Held). w .emoji) n, ap length z, length-append (L .emoji) (drop (length (L .emoji)) c));
     }

@@ -3,3 +3,4 @@ mod Groups
 mod Calls
 pub mod Fits
 pub mod Answers
+pub mod ReadBack

@@ -42,12 +42,7 @@ fn file_room() -> [u8; 524289]
 }
 
 // The lists in the bytes of a file.
-fn load_bytes(
-    file: &[u8],
-    starts: &mut [u32],
-    continues: &mut [u32],
-    emoji: &mut [u32],
-) -> Loading
+fn load_bytes(file: &[u8], starts: &mut [u32], continues: &mut [u32], emoji: &mut [u32]) -> Loading
     ensures { λ r. ⌜ Inside (now (starts .exit)) (now (continues .exit)) (now (emoji .exit)) r ⌝ }
 {
     let answer = lists_in::read_lists(file, starts, continues, emoji);
