@@ -2,17 +2,40 @@
  *
  *   tools/native-archive exports target/archive/liblovemudarn.a
  *   gcc -std=c99 -Ibindings/c bindings/c/example.c target/archive/liblovemudarn.a -o example
- *   ./example <rule.rs
+ *   ./example [LISTS] <rule.rs
+ *
+ * LISTS is a file of Unicode lists, such as data/unicode-15.0.0.lists. Without it the lists are empty.
  */
 #include <stdio.h>
 #include <string.h>
 #include "lovemudarn.h"
 
-enum { MOST = 65536 };
+enum { MOST = 65536, MOST_LISTS = 524288, RUN = 2 * LOVEMUDARN_MAX_PAIRS }; /* no file of lists has more bytes than that */
 
-static uint8_t text[MOST + 1], key[MOST];
+static uint8_t text[MOST + 1], key[MOST], file[MOST_LISTS + 1];
 static uint32_t slots[4 * MOST]; /* n bytes have at most n tokens, each of which takes four numbers */
-static const uint32_t none[1];   /* an empty list has a pointer too */
+static uint32_t starts[RUN], continues[RUN], emoji[RUN];
+static struct lovemudarn_lists_answer has; /* how many numbers the lists have: 0 */
+#define LISTS starts, has.starts, continues, has.continues, emoji, has.emoji
+
+/* Reads the lists of a file. */
+static bool load(const char *name) {
+    FILE *in = fopen(name, "rb");
+    size_t n = in ? fread(file, 1, sizeof file, in) : 0;
+    bool whole = in && !ferror(in) && n <= MOST_LISTS;
+    if (in)
+        fclose(in);
+    if (!whole) {
+        fprintf(stderr, "%s cannot be read, or is too long for a file of lists\n", name);
+        return false;
+    }
+    has = lovemudarn_read_lists(file, n, starts, RUN, continues, RUN, emoji, RUN);
+    if (has.number == LOVEMUDARN_BAD_LINE)
+        fprintf(stderr, "refused 9: line %zu (counted from 0) of %s is bad\n", has.beside, name);
+    else if (has.number != LOVEMUDARN_DONE)
+        fprintf(stderr, "refused %u: %zu %zu in %s\n", (unsigned)has.number, has.beside, has.second, name);
+    return has.number == LOVEMUDARN_DONE;
+}
 
 /* A refusal in words, for these calls; the header has all numbers. */
 static int explain(struct lovemudarn_answer a) {
@@ -32,8 +55,8 @@ static int explain(struct lovemudarn_answer a) {
     return 1;
 }
 
-/* The place in token i, as the empty lists give it, of a character that only lists can judge, or n where there is none: a character past ASCII that is an unknown
- * token, or that stands after a single quote and is not alone before the next, or after r#. */
+/* The place in token i of a character past ASCII that only lists that hold more can judge, or n where there is none: one that is an unknown token; or that begins no
+ * name by these lists, and stands after a single quote and is not alone before the next, or after r#. */
 static size_t judged(size_t i, size_t n) {
     uint32_t code = slots[4 * i], suffix_start = slots[4 * i + 1], len = slots[4 * i + 2];
     size_t start = slots[4 * i + 3], at = n;
@@ -44,7 +67,8 @@ static size_t judged(size_t i, size_t n) {
         bool whole = LOVEMUDARN_LITERAL_DETAIL_OF(code) != 0; /* closed, and of a raw string: with a count of hashes */
         uint8_t second = text[start + 1];
         uint32_t bytes = second < 0xE0 ? 2 : second < 0xF0 ? 3 : 4; /* of the character, if it is past ASCII */
-        if (literal == LOVEMUDARN_LITERAL_CHAR && !(whole && suffix_start == 2 + bytes))
+        if (literal == LOVEMUDARN_LITERAL_CHAR && !(whole && suffix_start == 2 + bytes) && second >= 0x80 &&
+            !lovemudarn_is_ident(text + start + 1, bytes, starts, has.starts, continues, has.continues).beside)
             at = start + 1;
         else if (literal == LOVEMUDARN_LITERAL_RAW_STR && !whole && second == '#' && len > 2)
             at = start + 2;
@@ -52,9 +76,9 @@ static size_t judged(size_t i, size_t n) {
     return at < n && text[at] >= 0x80 ? at : n;
 }
 
-/* The first place where lists may matter, or n. WITHOUT LISTS TWO RULES THAT DIFFER MAY HAVE ONE KEY: the lifetime in f!('é "' // limit 5"); is none then, its quote
- * pairs with the one in the string, and the rest of the string is dropped as a comment. This example has no lists, so it keys a text only where no list matters.
- * Whoever lends the lists of a Unicode version (tools/unicode-lists prints them) leaves this test out. */
+/* The first place where lists that hold more may matter, or n. WITHOUT LISTS TWO RULES THAT DIFFER MAY HAVE ONE KEY: the lifetime in f!('é "' // limit 5"); is none
+ * then, its quote pairs with the one in the string, and the rest of the string is dropped as a comment. With lists the same may happen to a letter that is newer than
+ * they are. So this example keys a text only where there is no such place. */
 static size_t needs_lists(size_t tokens, size_t n) {
     for (size_t i = 0; i < tokens; i++)
         if (judged(i, n) < n)
@@ -62,7 +86,9 @@ static size_t needs_lists(size_t tokens, size_t n) {
     return n;
 }
 
-int main(void) {
+int main(int argc, char **argv) {
+    if (argc > 1 && !load(argv[1]))
+        return 2;
     size_t n = fread(text, 1, sizeof text, stdin);
     if (ferror(stdin) || n > MOST) {
         fputs(n > MOST ? "this example takes 65536 bytes\n" : "standard input cannot be read\n", stderr);
@@ -73,15 +99,16 @@ int main(void) {
     if (a.number != LOVEMUDARN_DONE)
         return explain(a);
     memset(text, ' ', a.beside); /* 0 where there is none */
-    struct lovemudarn_answer tokens = lovemudarn_tokens(text, n, none, 0, none, 0, none, 0, false, slots, 4 * (size_t)MOST);
+    struct lovemudarn_answer tokens = lovemudarn_tokens(text, n, LISTS, false, slots, 4 * (size_t)MOST);
     if (tokens.number != LOVEMUDARN_DONE)
         return explain(tokens);
     size_t at = needs_lists(tokens.beside, n);
     if (at < n) {
-        fprintf(stderr, "not keyed: at byte %zu stands a character past ASCII that only lists can judge, and this example has none; lend Unicode's lists\n", at);
+        fprintf(stderr, "not keyed: at byte %zu stands a character past ASCII that only lists can judge, and these do not; lend %s lists\n", at,
+                argc > 1 ? "newer" : "Unicode's");
         return 1;
     }
-    a = lovemudarn_key(text, n, none, 0, none, 0, none, 0, key, MOST);
+    a = lovemudarn_key(text, n, LISTS, key, MOST);
     if (a.number != LOVEMUDARN_DONE)
         return explain(a);
     printf("key, %zu bytes:\n", a.beside);

@@ -12,12 +12,13 @@
  * point in turn, both included. Rules: at most LOVEMUDARN_MAX_PAIRS pairs; an even count of numbers; low <= high <= 0x10FFFF; low >= 0x80; each low above
  * the high before it; no pair covers a surrogate, U+0085, U+200E, U+200F, U+2028 or U+2029. AN EMPTY LIST (count 0) is a good list: then no character from
  * 0x80 on is in that class. Below 0x80 the lists have no say. Pairs may adjoin: lists that hold the same code points give the same tokens and keys.
+ * lovemudarn_read_lists reads the three from a file.
  *
  * FLAGS. A `bool` that goes in must be true or false (1 or 0). `on` says whether frontmatter may stand at the position: true at the start of a file, false
  * in the middle of one.
  *
  * ANSWERS. Every answer begins with three numbers: `number` is 0 (done) or the number of the refusal, `beside` and `second` are the numbers beside it.
- * A number that is not named below is 0. The refusals are checked in this order: 1, 3, 2, 4, 8, 6, 5, 7, and the first that holds is given; a call checks
+ * A number that is not named below is 0. The refusals are checked in this order: 1, 9, 3, 2, 4, 8, 6, 5, 7, and the first that holds is given; a call checks
  * what it uses and nothing else. A REFUSAL WRITES NOTHING: a run or buffer that was lent keeps every element. After success the elements past the answer
  * keep their values.
  */
@@ -43,8 +44,10 @@ extern "C" {
 #define LOVEMUDARN_FEW_SLOTS 5u    /* the run has fewer slots than the text has tokens; beside: the tokens, each of which needs four numbers */
 #define LOVEMUDARN_BROKEN_TOKEN 6u /* the text has a broken token, and so no key: a literal that does not end or has no hash count, or a block comment
                                       that does not end; beside: the start of the first */
-#define LOVEMUDARN_SHORT_BUFFER 7u /* the buffer is shorter than the key; beside: the bytes of the key */
+#define LOVEMUDARN_SHORT_BUFFER 7u /* the buffer is shorter than the key, or than the file of lists; beside: the bytes of the key or the file. Where lists are
+                                      read: a run is shorter than its list; beside: the first such list; second: its numbers */
 #define LOVEMUDARN_BAD_PREFIX 8u   /* the raw check's prefix is not 1 with r, or 2 with br or cr; beside: 0 */
+#define LOVEMUDARN_BAD_LINE 9u     /* a line of the file of lists is bad; beside: the number of the first, from 0 */
 
 /* The cause beside LOVEMUDARN_NOT_UTF8. The bytes of the sequence are judged from the left: the first that is wrong decides, or the end of the text where it
  * comes before that. */
@@ -212,6 +215,19 @@ struct lovemudarn_guarded_str_answer {
     size_t next;        /* past the string; past the hashes where none is found */
 };
 
+/* Done: beside and second are 0. Refused: every number past the third is 0. */
+struct lovemudarn_lists_answer {
+    uint32_t number;
+    size_t beside;
+    size_t second;
+    uint32_t major; /* the Unicode version that the file names */
+    uint32_t minor;
+    uint32_t update;
+    size_t starts; /* how many numbers each run now begins with */
+    size_t continues;
+    size_t emoji;
+};
+
 /* ---- the calls */
 
 /* What the calls on tokens check: 1, 3, 2, or 0. */
@@ -239,6 +255,23 @@ struct lovemudarn_run_answer lovemudarn_tokens_from(const uint8_t *text, size_t 
 /* The key of a text: 1, 3, 2, 6, 7, or 0 with the bytes of the key beside it. The key is at most as long as the text. */
 struct lovemudarn_answer lovemudarn_key(const uint8_t *text, size_t text_len, const uint32_t *starts, size_t starts_len, const uint32_t *continues,
                                         size_t continues_len, const uint32_t *emoji, size_t emoji_len, uint8_t *out, size_t out_len);
+
+/* The Unicode version and the lists of a file, the lists in three runs, as the calls above take them: 9, 3, 7 with the first list for which the run is too short and
+ * the numbers that it has, or 0 with the version and the numbers of each list in the other fields. 2 * LOVEMUDARN_MAX_PAIRS numbers in each run are always enough.
+ *
+ * The file: `unicode`, major, minor and update in its first line, as decimal numbers of 0 to 65,535; then a line a pair: `start`, `continue` or `emoji`, low and
+ * high, in hexadecimal of lower case and at most six digits; all pairs of `start`, then those of `continue`, then those of `emoji`. One tab stands between two
+ * fields, every line ends with LF, no number has leading zeros, and nothing else is there. An empty file is bad in line 0, and a last line without LF is bad.
+ * data/unicode-15.0.0.lists is such a file, and tools/unicode-lists makes that of another Unicode version. */
+struct lovemudarn_lists_answer lovemudarn_read_lists(const uint8_t *file, size_t file_len, uint32_t *starts, size_t starts_len, uint32_t *continues,
+                                                     size_t continues_len, uint32_t *emoji, size_t emoji_len);
+
+/* The file of a version and three lists: 9 with 0 where a number of the version is over 65,535, for then the first line would be bad; 3, 7, or 0 with the bytes of
+ * the file beside it. Version and lists have one file, to the byte: reading it gives them back, and what is read from a file has that file. It has at most
+ * 26 + 23 bytes for each pair. */
+struct lovemudarn_answer lovemudarn_write_lists(uint32_t major, uint32_t minor, uint32_t update, const uint32_t *starts, size_t starts_len,
+                                                const uint32_t *continues, size_t continues_len, const uint32_t *emoji, size_t emoji_len, uint8_t *out,
+                                                size_t out_len);
 
 /* Whether a text is an identifier: 1, 3, 2, or 0 with 1 (yes) or 0 (no) beside it. */
 struct lovemudarn_answer lovemudarn_is_ident(const uint8_t *text, size_t text_len, const uint32_t *starts, size_t starts_len, const uint32_t *continues,

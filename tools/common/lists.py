@@ -3,14 +3,9 @@
 Rust has no word for a list that breaks a rule: here the rules are applied in the plainest way.
 """
 
-import os
-import subprocess
-import sys
-
 from common.chance import Numbers
 from common.ending import fail
 
-TOOLS = os.path.dirname(os.path.dirname(os.path.abspath(__file__)))
 LIST_NAMES = ["start", "continue", "emoji"]
 TOP = 0x10FFFF
 # The most pairs of a list: the scope paper, as request W7 amends it. Of the tools this one alone has the number.
@@ -106,19 +101,6 @@ def cut_up(seed, numbers, count):
                 cut.append((low, high))
         pairs = cut
     return flat(pairs)
-
-
-def read_real(arguments):
-    """Unicode's lists, as tools/unicode-lists prints them; it says itself what is missing."""
-    lists = ([], [], [])
-    command = [sys.executable, os.path.join(TOOLS, "unicode-lists")] + arguments
-    done = subprocess.run(command, stdout=subprocess.PIPE, text=True)
-    if done.returncode != 0:
-        fail("there are no Unicode lists to work with")
-    for line in done.stdout.splitlines():
-        name, low, high = line.split()
-        lists[LIST_NAMES.index(name)].extend((int(low, 16), int(high, 16)))
-    return lists
 
 
 # ---- lists that break a rule ----

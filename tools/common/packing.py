@@ -5,15 +5,20 @@ import struct
 import sys
 
 from common.ending import fail
+from common.lists_file import MAX_VERSION
 
 FILE_LIMIT = 262144
 ANSWER_LIMIT = 65536
 
 VERDICT, VERDICT_AFTER, WHITESPACE, HORIZONTAL, START, CONTINUE, EMOJI, IDENT = range(1, 9)
 ONE, TOKENS, SHEBANG, RAW, GUARDED, TOKENS_ONCE, LIST, SLOTS, KEY = range(9, 18)
+READ_LISTS, WRITE_LISTS = 18, 19
 # The records that operation 15 lends, and the most bytes that operation 17 does.
 RECORDS = 64
 MOST_ROOM = 4096
+# The most numbers that operation 18 lends for a list, and the most bytes that operation 19 does.
+MOST_NUMBERS = 20000
+MOST_BYTES = 262000
 CLASS_NAMES = {
     WHITESPACE: "whitespace",
     HORIZONTAL: "horizontal",
@@ -52,6 +57,16 @@ def of_the_format(operation, given, answer):
             return False
         room, fill = numbers_in(given[:8])
         return room <= MOST_ROOM and fill <= 255 and answer == 12 + room
+    if operation == READ_LISTS:
+        if handed_in < 12:
+            return False
+        rooms = numbers_in(given[:12])
+        return max(rooms) <= MOST_NUMBERS and answer == 36 + 4 * sum(rooms)
+    if operation == WRITE_LISTS:
+        if handed_in != 20:
+            return False
+        *version, room, fill = numbers_in(given)
+        return max(version) <= MAX_VERSION and room <= MOST_BYTES and fill <= 255 and answer == 12 + room
     if operation == VERDICT_AFTER:
         return handed_in <= 8 and answer == 256
     if operation in CLASS_NAMES:

@@ -7,13 +7,18 @@
 #   find_kit, program NAME  the toolchain's folder, and a program, run under its loader
 #   take FILE               a copy of a file: `room`/text
 #   run NAME [FILE]         what a program writes for the copy, or for another file: `room`/answer
-#   doubtful, tell_doubt    whether the copy may have another key as rustc reads it, with full Unicode lists, and saying so
-#   warn                    says where the copy may have other tokens with full Unicode lists
+#   doubtful PROGRAM        whether the copy, which has a key, may have another one as rustc reads it; the program writes its tokens, by the same lists
+#   tell_doubt              says so
+#   warn                    says where the copy, whose tokens are the answer, may have others as rustc reads it
 #   put [FILE]              a file, or standard input, on standard output
+#
+# What tell_doubt and warn say of a name past ASCII the script has set: `lacks`, what its lists lack, and `remedy`, what to do.
 unset CDPATH
 state=$root/target/lovemudarn
 tab=$(printf '\t')
 blanks=$(printf ' \t\r\013\014')
+# a byte order mark, and the blanks past ASCII: U+0085, U+200E, U+200F, U+2028, U+2029
+far_blanks=$(printf '\357\273\277 \302\205 \342\200\216 \342\200\217 \342\200\250 \342\200\251')
 limit=65536
 first_run='about 5 to 10 minutes'
 me='' lock=$state/lock building='' part=''
@@ -60,7 +65,7 @@ put() {
 }
 
 # Reads bytes as od writes them, in decimal. With `names` it writes them as one line that can be shown. Else it writes, for a refusal and its place:
-# line, column in characters and in bytes, what stands there, the hashes of a raw string, whether what matters next is past ASCII, and the first `many`
+# line, column in characters and in bytes, what stands there, the hashes of a raw string, whether more Unicode lists may see a name there, and the first `many`
 # bytes at the place in hexadecimal, all on one line; then the line of the place as it can be shown, cut where it is long; then the mark below it.
 # Which bytes are UTF-8 is not judged here: `drawn` decides nothing but what is shown for them.
 look='
@@ -99,11 +104,9 @@ function cell(at, raw_byte,    size, i) {    # what is shown for the character a
 }
 function raw(at) {                           # a broken raw string, from after its letters on
     while (b[at + hashes] == 35) hashes++
-    foreign = b[at + hashes] > 127
     return b[at + hashes] != 34 ? "raw-unquoted" : hashes > 255 ? "raw-hashes" : "raw"
 }
 function broken(first, second) {             # what a broken token is: its first bytes tell
-    foreign = second > 127
     if (first == 47) return "comment"
     if (first == 34) return "string"
     if (first == 39) return "character"
@@ -129,8 +132,9 @@ END {
     for (i = start; i < place; i++) if (b[i] < 128 || b[i] > 191) column++
     for (end = place; end < n && b[end] != 10; end++) ;
     if (end < n && end > place && b[end - 1] == 13) end--
-    hashes = foreign = 0
+    hashes = 0
     what = number == 6 ? broken(b[place] + 0, b[place + 1] + 0) : "other"
+    foreign = b[place] == 39 && b[place + 1] > 127 || b[place] == 114 && b[place + 1] == 35 && b[place + 2] > 127
     printf "%d %d %d %s %d %d", line, column, place - start + 1, what, hashes, foreign
     for (i = place; i < place + many && i < n; i++) printf " %02X", b[i]
     printf "\n"
@@ -171,10 +175,11 @@ called() {
     esac
 }
 
-# take FILE: copies the file, or as much of it as tells that it is too long, so that all that follows sees the same bytes. A write that fails is
-# the tool's fault, so that cat makes it, and a read that fails is the file's.
+# take FILE [COPY LIMIT]: copies the file to `room`/COPY (text), or as much of it as tells that it is too long, so that all that follows sees the same bytes. A
+# write that fails is the tool's fault, so that cat makes it, and a read that fails is the file's.
 take() {
     called "$1"
+    most=$((${3:-$limit} + 1))
     if [ "$1" != - ]; then
         if [ -d "$1" ]; then unread 'it is a directory'; return; fi
         if [ -L "$1" ] && [ ! -e "$1" ]; then unread 'it is a link to a file that is not there'; return; fi
@@ -183,9 +188,9 @@ take() {
     fi
     true >"$room/ended" || full
     {
-        if [ "$1" = - ]; then head -c $((limit + 1)); else head -c $((limit + 1)) <"$1"; fi
+        if [ "$1" = - ]; then head -c $most; else head -c $most <"$1"; fi
         echo $? >"$room/ended"
-    } 2>"$room/complaint" | cat >"$room/text" || full
+    } 2>"$room/complaint" | cat >"$room/${2:-text}" || full
     ended=
     read -r ended <"$room/ended"
     [ -n "$ended" ] || full
@@ -236,12 +241,13 @@ program() {
     ${by:-} ${emulator:+"$emulator"} "$tools/lib/ld-linux-x86-64.so.2" --library-path "$tools/lib" "$root/target/bin/$program" "$@"
 }
 
-# run PROGRAM [FILE]: what the program writes for the copy, or for another file. It does not tell when a write fails, so that it writes into a pipe and cat
-# writes the answer.
+# run PROGRAM [FILE]: what the program writes for the copy, or for another file; a program that reads with lists is handed the copy of their file. It does not tell
+# when a write fails, so that it writes into a pipe and cat writes the answer. The first eight bytes are left in `first`.
 run() {
     true >"$room/ended" || full
+    case $1 in *_with) with=$room/lists ;; *) with= ;; esac
     {
-        program "$1" <"${2:-$room/text}" 2>"$room/complaint"
+        program "$1" ${with:+"$with"} <"${2:-$room/text}" 2>"$room/complaint"
         echo $? >"$room/ended"
     } | cat >"$room/answer" || full
     ended=
@@ -250,25 +256,26 @@ run() {
         tail -n 20 "$room/complaint" >&2
         die "$name: the program $1 failed with status ${ended:-unknown}"
     fi
+    { first=$(head -c 8 "$room/answer"); } 2>/dev/null || full
 }
 
 # is_refused: whether the answer is a refusal, which is one line, and begins as no key and no list of tokens does. A NUL byte that a shell leaves out of
 # what it reads makes no difference: it takes one of the eight bytes.
-is_refused() {
-    { first=$(head -c 8 "$room/answer"); } 2>/dev/null || full
-    [ "$first" = "refused$tab" ]
-}
+is_refused() { [ "$first" = "refused$tab" ]; }
 
-# Reads the lines of print_tokens, a line `=` and the bytes. Empty and full lists part a text alike as far as no character past ASCII is asked for in a list, and
-# there is then one of these: a token Unknown; a literal of a quote and more than one character, the first past ASCII, which may be a lifetime; r# before a
-# character past ASCII, which may be a raw name. Without `keys` the first such place is written.
-# With it the first place at which a key may be another one: the quote as before (the raw name is refused as broken); a name with a character past ASCII that
-# ends right before a quote or a #, unless that character itself stands before " or #, where what follows is read alike.
-# And, whatever the lists, what rustc takes away before it reads: a shebang in which a token begins that ends in a later line (only #! before [ is none: 000,
-# strip_shebang; a comment that might be a doc comment is taken for no trivia), and frontmatter. What is written is the place, and what it is.
+# Reads the lists, or nothing where there are none, the lines of a text's tokens by these lists, and the bytes, with a line `=` between them. Writes the first place at
+# which rustc may read other tokens or, with `keys`, another key, and why.
+# - What rustc takes away before it reads, whatever the lists, gives another key: a shebang in which a token begins that ends in a later line (only #! before [ is none:
+#   000, strip_shebang; a comment that might be a doc comment is taken for no trivia), and frontmatter.
+# - Names: lists that hold more, as those of a newer rustc, give the same tokens up to a character that they alone hold. This is one past ASCII that is a token Unknown;
+#   or that begins a literal in single quotes with more than this character in it, and no name (which may be a lifetime); or that stands after r# (which may be a raw name).
+#   Another key they give only after the quote, and where an Unknown is in a run of characters of names that ends right before a quote or a #; but not where the last one
+#   of the run is past ASCII and " or # follows, which is then read alike. After r# the text is refused as broken. Where a number begins in the run and goes on past it, by
+#   a point or the sign of an exponent, so does the run: in X1e-r"a" the r is the suffix of a number, and after a name the prefix of a string.
+# - A byte order mark at the beginning is in no name: rustc drops it.
 # Tokens that are not those of the bytes, as where one of the two could not be read, are a failure, and no answer.
 doubts='
-BEGIN { count = n = to = 0 }
+BEGIN { pairs = count = n = from = to = 0 }
 function in_name(c) { return c > 127 || c > 47 && c < 58 || c > 64 && c < 91 || c > 96 && c < 123 || c == 95 }
 function size_of(c) { return c < 224 ? 2 : c < 240 ? 3 : 4 }
 function said(at, why) { print at, why; exit }
@@ -278,7 +285,7 @@ function attribute(t, at) {                  # whether [ follows #!, trivia betw
 }
 function top(    t, at, end) {
     t = at = 0
-    if (b[0] == 239 && b[1] == 187 && b[2] == 191) at += size[t++]       # a byte order mark
+    if (marked) at += size[t++]
     if (b[at] == 35 && b[at + 1] == 33 && !attribute(t + 2, at + 2)) {
         for (end = at; end < n && b[end] != 10; end++) ;
         for (; t < count && at + size[t] <= end; t++) at += size[t]
@@ -287,22 +294,51 @@ function top(    t, at, end) {
     for (; kind[t] == "Whitespace"; t++) at += size[t]
     if (kind[t] == "Minus" && kind[t + 1] == "Minus" && kind[t + 2] == "Minus") said(at, "frontmatter")
 }
-!bytes && $1 == "=" { bytes = 1; next }
-!bytes { kind[count] = $1; size[count++] = $2; next }
-{ for (i = 1; i <= NF; i++) b[n++] = $i + 0 }
+function number(digits,    i, sum) {         # hexadecimal
+    for (i = sum = 0; i++ < length(digits);) sum = 16 * sum + index("123456789abcdef", substr(digits, i, 1))
+    return sum
+}
+function is_start(at,    c, size, i) {       # whether the lists let the character past ASCII at a byte begin a name
+    c = b[at]
+    size = size_of(c)
+    c -= size == 2 ? 192 : size == 3 ? 224 : 240
+    for (i = 1; i < size; i++) c = 64 * c + b[at + i] - 128
+    for (i = 0; i < pairs && high[i] < c; i++) ;
+    return i < pairs && low[i] <= c
+}
+function judge() {                           # the run of characters of names that goes on at `to`, and has an Unknown at `from`
+    while (to < n && in_name(b[to])) to++
+    if (b[to] == 39 || b[to - 1] < 128 && (b[to] == 34 || b[to] == 35)) said(from, "name")
+}
+function past_ascii(keys,    t, at) {
+    for (t = at = 0; t < count; at += size[t++]) {
+        if (kind[t] == "Literal") {
+            if (b[at] == 39 && b[at + 1] > 127 && b[at + 1 + size_of(b[at + 1])] != 39 && !is_start(at + 1)) said(at + 1, "name")
+            if (!keys && b[at] == 114 && b[at + 1] == 35 && b[at + 2] > 127) said(at + 2, "name")
+            if (at < to && at + size[t] > to && b[at] > 47 && b[at] < 58) {
+                while (b[to] == 46 || (b[to] == 43 || b[to] == 45) && (b[to - 1] == 69 || b[to - 1] == 101)) {
+                    to++
+                    judge()
+                }
+            }
+        }
+        if (kind[t] != "Unknown" || size[t] == 1 || at == 0 && marked) continue
+        if (!keys) said(at, "name")
+        if (at < to) continue
+        from = to = at
+        judge()
+    }
+}
+$1 == "=" { part++; next }
+!part && $1 == "start" { low[pairs] = number($2); high[pairs++] = number($3) }
+part == 1 { kind[count] = $1; size[count++] = $2 }
+part == 2 { for (i = 1; i <= NF; i++) b[n++] = $i + 0 }
 END {
     for (t = at = 0; t < count; t++) at += size[t]
     if (at != n) exit 3
+    marked = b[0] == 239 && b[1] == 187 && b[2] == 191       # a byte order mark
     if (keys) top()
-    for (t = at = 0; t < count; at += size[t++]) {
-        if (kind[t] == "Literal" && b[at] == 39 && b[at + 1] > 127 && b[at + 1 + size_of(b[at + 1])] != 39) said(at, "name")
-        if (!keys && kind[t] == "Literal" && b[at] == 114 && b[at + 1] == 35 && b[at + 2] > 127) said(at, "name")
-        if (kind[t] != "Unknown" || size[t] == 1) continue
-        if (!keys) said(at, "name")
-        if (at < to) continue
-        for (to = at; to < n && in_name(b[to]); to++) ;
-        if (to < n && (b[to] == 39 || b[to - 1] < 128 && (b[to] == 34 || b[to] == 35))) said(at, "name")
-    }
+    past_ascii(keys)
 }'
 
 # past_ascii: whether the copy has a character past ASCII; without one no list is asked
@@ -310,28 +346,32 @@ past_ascii() {
     LC_ALL=C tr -d '\000-\177' <"$room/text" >"$room/past" || full
     [ -s "$room/past" ]
 }
-# odd_top: whether the copy may begin with a shebang or with frontmatter, a byte order mark left aside, which is past ASCII
+# odd_top: whether the copy may begin with a shebang or with frontmatter. What begins with a byte order mark or a blank past ASCII may, whatever follows.
 odd_top() {
     top=
     while [ -z "$top" ] && IFS= read -r top || [ -n "$top" ]; do
         top=${top#"${top%%[!"$blanks"]*}"}
-        case $top in '#!'* | ---*) return 0 ;; ?*) return 1 ;; esac
+        case $top in '#!'* | ---*) return 0 ;; '') continue ;; esac
+        for mark in $far_blanks; do
+            case $top in "$mark"*) return 0 ;; esac
+        done
+        return 1
     done <"$room/text"
     return 1
 }
 # doubt [KEYS]: leaves in `place` and `why` where the copy may be read otherwise by rustc, judged by its tokens in `room`/answer; none is left where none is
 doubt() {
-    place=$({ cat "$room/answer"; echo '='; od -An -v -tu1 "$room/text"; } | LC_ALL=C awk -v keys="${1:-}" "$doubts") || die 'awk or od failed'
+    place=$({ [ -z "$with" ] || cat "$with"; echo '='; cat "$room/answer"; echo '='; od -An -v -tu1 "$room/text"; } | LC_ALL=C awk -v keys="${1:-0}" "$doubts") || die 'awk or od failed'
     why=${place#* }
     place=${place% *}
 }
 
-# doubtful: whether the copy, which has a key with empty lists, may have another one as rustc reads it
+# doubtful PROGRAM: whether the copy, whose key is the answer, may have another one as rustc reads it; the answer stays
 doubtful() {
     past_ascii || odd_top || return 1
     mv "$room/answer" "$room/key" || full
-    run print_tokens
-    doubt keys
+    run "$1"
+    doubt 1
     mv "$room/key" "$room/answer" || full
     [ -n "$place" ]
 }
@@ -365,22 +405,21 @@ tell_doubt() {
             ;;
         esac
         show_place 'not keyed: a name past ASCII that this tool may read wrongly'
-        echo '  What it means: this tool reads without Unicode lists. Here a lifetime or a label begins past ASCII, or a name with a character past ASCII ends'
-        echo '    right before a quote or a #. With lists the text may part into other tokens there, and its key may be another one.'
-        echo '  What to do: use the C, Rust or Rattle interface, with Unicode lists (docs/GUIDE.md); or write the name in ASCII.'
+        echo "  What it means: $lacks Then a lifetime or a label begins with it, or a name"
+        echo '    with it ends before a quote or a #: the text parts into other tokens, and its key may be another one.'
+        echo "  What to do: $remedy Then the file may be keyed."
     } >&2
 }
 
-# warn: where the tokens of the copy, which are in `room`/answer, may be others with full lists
+# warn: where the tokens of the copy, which are in `room`/answer, may be others as rustc reads it
 warn() {
     past_ascii || return 0
     doubt
     [ -n "$place" ] || return 0
     {
-        show_place 'warning: with Unicode lists these tokens may be others'
-        echo '  What it means: this tool reads without Unicode lists. Here a character past ASCII stands outside of comments and literals, or begins what may be a'
-        echo '    lifetime, a label or a raw name. With lists, as in rustc, it may be part of a name, which may begin before it, and the text may part into other tokens.'
-        echo '  What to do: if these tokens matter, use the C, Rust or Rattle interface, with Unicode lists (docs/GUIDE.md); or write the name in ASCII.'
+        show_place 'warning: rustc may read other tokens'
+        echo "  What it means: $lacks Then the text parts into other tokens."
+        echo "  What to do: if these tokens matter, $remedy"
     } >&2
 }
 
@@ -491,7 +530,7 @@ watch() {
 
 # How long each part took, in seconds (Arm, two cores, 398 s in all): what is left is judged by it. A part that is not named counts as 20.
 weights=' refusal 7 basics 1 puts 4 text 31 ranges 20 eaters 1 reports 5 classes 21 token 5 cursor 26 kinds 34 canon 9 comment 26 words 32 quoted 17 numerals 19 '
-weights=$weights'token_line 11 literals 18 frontmatter 26 prefixed 15 advance 36 lexer 22 lines 42 key 61 print_tokens 59 print_key 59 well_formed 16 '
+weights=$weights'token_line 11 literals 18 frontmatter 26 prefixed 15 advance 36 lexer 22 lines 42 key 61 print_tokens 59 print_key 59 tokens_with 59 key_with 59 well_formed 16 '
 weigh() {
     weight=20
     case $weights in *" $1 "*)

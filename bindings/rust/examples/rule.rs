@@ -1,18 +1,33 @@
 //! The key and the tokens of standard input, or why it has none.
 //!
-//!     cargo run --release --manifest-path bindings/rust/Cargo.toml --example rule <rule.rs
+//!     cargo run --release --manifest-path bindings/rust/Cargo.toml --example rule -- [LISTS] <rule.rs
 //!
-//! The status is 0 where it is done, 1 where there is no key, 2 where input or output fails.
+//! LISTS is a file of Unicode lists, such as data/unicode-15.0.0.lists; without it the lists are empty.
+//! The status is 0 where it is done, 1 where there is no key, 2 where lists, input or output fail.
 
 use std::fmt::Write as _;
 use std::io::{self, Read, Write};
 use std::process::ExitCode;
+use std::{env, fs};
 
 use lovemudarn::{
-    Cursor, FrontmatterAllowed, Lists, Refusal, Token, key, needs_lists, strip_shebang,
+    Cursor, FrontmatterAllowed, Lists, LoadedLists, Refusal, Token, key, needs_newer_lists,
+    strip_shebang,
 };
 
 fn main() -> ExitCode {
+    let mut loaded = LoadedLists::default(); // empty
+    if let Some(name) = env::args_os().nth(1) {
+        let file = fs::read(&name).map_err(|error| error.to_string());
+        match file.and_then(|file| Lists::parse(file).map_err(|refusal| refusal.to_string())) {
+            Ok(lists) => loaded = lists,
+            Err(why) => {
+                eprintln!("no lists from {}: {why}", name.display());
+                return ExitCode::from(2);
+            }
+        }
+    }
+    let lists = loaded.lists();
     let mut text = Vec::new();
     if let Err(error) = io::stdin().read_to_end(&mut text) {
         eprintln!("standard input cannot be read: {error}");
@@ -24,21 +39,22 @@ fn main() -> ExitCode {
         Ok(end) => text.iter_mut().take(end.unwrap_or(0)).for_each(|byte| *byte = b' '),
         Err(refusal) => return refused(refusal),
     }
-    // This example has no lists, and WITHOUT LISTS TWO RULES THAT DIFFER MAY HAVE ONE KEY: see
-    // `Lists::EMPTY`. So it keys a text only where no list matters. Whoever lends the lists of a Unicode
-    // version (tools/unicode-lists prints them) leaves this test out, and lends them below.
-    match needs_lists(&text) {
+    // Where a letter is in no list, TWO RULES THAT DIFFER MAY HAVE ONE KEY: see `Lists::EMPTY`. With empty
+    // lists that is every letter past ASCII, with others each that is newer than they are. So a text is keyed
+    // only where lists that hold more would change nothing.
+    match needs_newer_lists(&text, &lists) {
         Ok(None) => {}
         Ok(Some(at)) => {
+            let lend = if lists == Lists::EMPTY { "Unicode's" } else { "newer" };
             eprintln!(
                 "not keyed: at byte {at} (counted from 0) a character past ASCII stands outside of comments \
-                 and strings, and this example has no lists to tell what it is; lend Unicode's lists"
+                 and strings, and the lists do not tell what it is; lend {lend} lists"
             );
             return ExitCode::from(1);
         }
         Err(refusal) => return refused(refusal),
     }
-    match answers(&text, &Lists::EMPTY) {
+    match answers(&text, &lists) {
         Ok((key, tokens)) => printed(&key, &tokens),
         Err(refusal) => refused(refusal),
     }

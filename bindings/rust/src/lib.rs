@@ -18,8 +18,10 @@
 //! # Ok::<(), lovemudarn::Refusal>(())
 //! ```
 //!
-//! **Lend Unicode's lists, or ask [`needs_lists`]**: with [`Lists::EMPTY`] a text with names past ASCII
-//! may part into other tokens than rustc's, and two rules that differ may have one key.
+//! **Lend Unicode's lists ([`Lists::parse`] reads their file), or ask [`needs_lists`]**: with [`Lists::EMPTY`] a
+//! text with names past ASCII may part into other tokens than rustc's, and two rules that differ may have one
+//! key. With lists that are older than rustc's the same may happen to names newer than they are: ask
+//! [`needs_newer_lists`].
 //!
 //! No call panics, whatever the text, the lists and the numbers are: what has no answer is refused by
 //! a [`Refusal`]. Texts are bytes (`&str`, `&[u8]`, ..), and a text that is not UTF-8 is refused.
@@ -37,10 +39,10 @@ pub use cursor::{Cursor, Tokens};
 pub use kinds::{
     Base, DocStyle, FrontmatterAllowed, GuardedStr, LiteralKind, RawStrError, Token, TokenKind,
 };
-pub use lists::{Lists, MAX_PAIRS, needs_lists};
+pub use lists::{Held, Lists, LoadedLists, MAX_PAIRS, Version, needs_lists, needs_newer_lists};
 pub use refusal::{Cause, ListName, Refusal};
 
-// Every unsafe block below is one call of the archive, for the same reason: each pointer with its
+// Every unsafe block of this crate is one call of the archive, for the same reason: each pointer with its
 // count is one slice that is borrowed as long as the call runs, shared where it goes in as `*const` and
 // unique where it goes in as `*mut`, and a slice's pointer is never null. The archive reads and writes
 // inside these slices alone and keeps no pointer: that is proved of every function in it.

@@ -62,6 +62,20 @@ pub struct GuardedStrAnswer {
     pub next: usize,
 }
 
+#[repr(C)]
+#[derive(Clone, Copy)]
+pub struct ListsAnswer {
+    pub number: u32,
+    pub beside: usize,
+    pub second: usize,
+    pub major: u32,
+    pub minor: u32,
+    pub update: u32,
+    pub starts: usize,
+    pub continues: usize,
+    pub emoji: usize,
+}
+
 unsafe extern "C" {
     pub fn lovemudarn_token(
         text: *const u8,
@@ -108,6 +122,31 @@ unsafe extern "C" {
     pub fn lovemudarn_key(
         text: *const u8,
         text_len: usize,
+        starts: *const u32,
+        starts_len: usize,
+        continues: *const u32,
+        continues_len: usize,
+        emoji: *const u32,
+        emoji_len: usize,
+        out: *mut u8,
+        out_len: usize,
+    ) -> Answer;
+
+    pub fn lovemudarn_read_lists(
+        file: *const u8,
+        file_len: usize,
+        starts: *mut u32,
+        starts_len: usize,
+        continues: *mut u32,
+        continues_len: usize,
+        emoji: *mut u32,
+        emoji_len: usize,
+    ) -> ListsAnswer;
+
+    pub fn lovemudarn_write_lists(
+        major: u32,
+        minor: u32,
+        update: u32,
         starts: *const u32,
         starts_len: usize,
         continues: *const u32,

@@ -14,6 +14,28 @@ pub enum ListName {
     Emoji,
 }
 
+impl ListName {
+    /// The list of a number of the archive.
+    fn of(number: usize) -> Option<ListName> {
+        match number {
+            0 => Some(ListName::IdStart),
+            1 => Some(ListName::IdContinue),
+            2 => Some(ListName::Emoji),
+            _ => None,
+        }
+    }
+}
+
+impl fmt::Display for ListName {
+    fn fmt(&self, f: &mut fmt::Formatter<'_>) -> fmt::Result {
+        f.write_str(match self {
+            ListName::IdStart => "id start",
+            ListName::IdContinue => "id continue",
+            ListName::Emoji => "emoji",
+        })
+    }
+}
+
 /// Why bytes are not UTF-8. The bytes of a sequence are judged from the left: the first that is wrong
 /// decides, or the end of the text where it comes before that.
 #[derive(Clone, Copy, Debug, PartialEq, Eq, Hash)]
@@ -94,13 +116,25 @@ pub enum Refusal {
         /// Where the first broken token starts.
         at: usize,
     },
-    /// 7: the buffer has fewer bytes than the key.
+    /// 7: the buffer has fewer bytes than the key, or than the file of lists.
     Room {
-        /// The bytes of the key.
+        /// The bytes of the key or the file.
+        needed: usize,
+    },
+    /// 7: the buffer for a list has fewer numbers than the file has for it.
+    ListRoom {
+        /// The first list for which it is so.
+        list: ListName,
+        /// The numbers of the list.
         needed: usize,
     },
     /// 8: the prefix of the raw string is not 1 with `r`, nor 2 with `br` or `cr`.
     Prefix,
+    /// 9: a line of a file of lists is bad.
+    Line {
+        /// The number of the first that is, counted from 0.
+        line: usize,
+    },
     /// The archive gave an answer that this crate does not know: the two are of different
     /// versions.
     Unknown {
@@ -123,8 +157,9 @@ impl Refusal {
             Refusal::Position { .. } => 4,
             Refusal::Slots { .. } => 5,
             Refusal::Broken { .. } => 6,
-            Refusal::Room { .. } => 7,
+            Refusal::Room { .. } | Refusal::ListRoom { .. } => 7,
             Refusal::Prefix => 8,
+            Refusal::Line { .. } => 9,
             Refusal::Unknown { number, .. } => number,
         }
     }
@@ -147,10 +182,12 @@ impl Refusal {
         }
     }
 
-    /// The tokens (5) or bytes (7) that a buffer has to have room for.
+    /// The tokens (5), or the bytes or numbers (7), that a buffer has to have room for.
     pub fn needed(self) -> Option<usize> {
         match self {
-            Refusal::Slots { needed } | Refusal::Room { needed } => Some(needed),
+            Refusal::Slots { needed }
+            | Refusal::Room { needed }
+            | Refusal::ListRoom { needed, .. } => Some(needed),
             _ => None,
         }
     }
@@ -164,18 +201,27 @@ impl Refusal {
                 Some(cause) => Refusal::NotUtf8 { at: beside, cause },
                 None => unknown,
             },
-            3 => match beside {
-                0 => Refusal::List { list: ListName::IdStart, pair: second },
-                1 => Refusal::List { list: ListName::IdContinue, pair: second },
-                2 => Refusal::List { list: ListName::Emoji, pair: second },
-                _ => unknown,
+            3 => match ListName::of(beside) {
+                Some(list) => Refusal::List { list, pair: second },
+                None => unknown,
             },
             4 => Refusal::Position { at: beside },
             5 => Refusal::Slots { needed: beside },
             6 => Refusal::Broken { at: beside },
             7 => Refusal::Room { needed: beside },
             8 => Refusal::Prefix,
+            9 => Refusal::Line { line: beside },
             _ => unknown,
+        }
+    }
+
+    /// The same of the call that reads a file of lists: its 7 has a list beside it, and then what is
+    /// needed.
+    pub(crate) fn of_reader(number: u32, beside: usize, second: usize) -> Refusal {
+        match (number, ListName::of(beside)) {
+            (7, Some(list)) => Refusal::ListRoom { list, needed: second },
+            (7, None) => Refusal::Unknown { number, beside, second },
+            _ => Refusal::of(number, beside, second),
         }
     }
 }
@@ -199,18 +245,11 @@ impl fmt::Display for Refusal {
                     "the text is not UTF-8 from byte {at} on (counted from 0): {cause}; {advice}"
                 )
             }
-            Refusal::List { list, pair } => {
-                let name = match list {
-                    ListName::IdStart => "id start",
-                    ListName::IdContinue => "id continue",
-                    ListName::Emoji => "emoji",
-                };
-                write!(
-                    f,
-                    "pair {pair} (counted from 0) of the list `{name}` of code points breaks a rule; \
-                     make the list anew from the Unicode files"
-                )
-            }
+            Refusal::List { list, pair } => write!(
+                f,
+                "pair {pair} (counted from 0) of the list `{list}` of code points breaks a rule; \
+                 make the list anew from the Unicode files"
+            ),
             Refusal::Position { at } => write!(
                 f,
                 "no character of the text begins at byte {at}: it is past the end or inside a character"
@@ -224,11 +263,19 @@ impl fmt::Display for Refusal {
                  is not closed, or is a raw string that begins wrong or has more than 255 hashes"
             ),
             Refusal::Room { needed } => {
-                write!(f, "the buffer is too short: the key has {needed} bytes")
+                write!(f, "the buffer is too short: {needed} bytes are needed")
+            }
+            Refusal::ListRoom { list, needed } => {
+                write!(f, "the buffer for the list `{list}` is too short: it has {needed} numbers")
             }
             Refusal::Prefix => {
                 write!(f, "the text does not begin with `r` (prefix 1), or `br` or `cr` (prefix 2)")
             }
+            Refusal::Line { line } => write!(
+                f,
+                "line {line} (counted from 0) of the file of lists is out of form or out of order, or is \
+                 cut off; make the file anew from the Unicode files"
+            ),
             Refusal::Unknown { number: _, beside, second } => write!(
                 f,
                 "this version of the crate does not know the answer (beside it: {beside}, {second}); \
@@ -246,20 +293,41 @@ mod tests {
 
     #[test]
     fn numbers_go_both_ways() {
-        for number in 1..=8 {
+        for number in 1..=9 {
             for (beside, second) in [(0, 1), (1, 2), (2, 3)] {
-                let refusal = Refusal::of(number, beside, second);
-                assert_eq!(refusal.number(), number);
-                assert!(!matches!(refusal, Refusal::Unknown { .. }), "{refusal}");
+                for of in [Refusal::of, Refusal::of_reader] {
+                    let refusal = of(number, beside, second);
+                    assert_eq!(refusal.number(), number);
+                    assert!(!matches!(refusal, Refusal::Unknown { .. }), "{refusal}");
+                }
             }
         }
         for pair in [0, 7, crate::MAX_PAIRS] {
             assert_eq!(Refusal::of(3, 2, pair), Refusal::List { list: ListName::Emoji, pair });
         }
-        for (number, beside) in [(0, 0), (3, 3), (9, 1), (u32::MAX, usize::MAX)] {
-            let refusal = Refusal::of(number, beside, 1);
-            assert!(matches!(refusal, Refusal::Unknown { .. }));
-            assert_eq!(refusal.number(), number);
+        for (number, beside) in [(0, 0), (3, 3), (10, 1), (u32::MAX, usize::MAX)] {
+            for of in [Refusal::of, Refusal::of_reader] {
+                let refusal = of(number, beside, 1);
+                assert!(matches!(refusal, Refusal::Unknown { .. }));
+                assert_eq!(refusal.number(), number);
+            }
+        }
+    }
+
+    /// What is needed stands beside 7; in the reader's, the list does.
+    #[test]
+    fn seven_has_two_meanings() {
+        for (number, list) in
+            [ListName::IdStart, ListName::IdContinue, ListName::Emoji].into_iter().enumerate()
+        {
+            let refusal = Refusal::of_reader(7, number, 41);
+            assert_eq!(refusal, Refusal::ListRoom { list, needed: 41 });
+            assert_eq!((refusal.number(), refusal.needed()), (7, Some(41)));
+            assert_eq!(Refusal::of(7, number, 0), Refusal::Room { needed: number });
+        }
+        for beside in [3, 0x1_0000_0000, usize::MAX] {
+            let unknown = Refusal::Unknown { number: 7, beside, second: 41 };
+            assert_eq!(Refusal::of_reader(7, beside, 41), unknown);
         }
     }
 
@@ -279,7 +347,7 @@ mod tests {
 
     #[test]
     fn places() {
-        for number in 1..=8 {
+        for number in 1..=9 {
             let refusal = Refusal::of(number, 1, 3);
             assert_eq!(refusal.place(), [2, 4, 6].contains(&number).then_some(1));
             assert_eq!(refusal.needed(), [5, 7].contains(&number).then_some(1));
@@ -289,9 +357,11 @@ mod tests {
 
     #[test]
     fn each_says_its_number() {
-        for number in 1..=9 {
-            let said = Refusal::of(number, 2, 17).to_string();
-            assert!(said.starts_with(&format!("refusal {number}: ")), "{said}");
+        for number in 1..=10 {
+            for of in [Refusal::of, Refusal::of_reader] {
+                let said = of(number, 2, 17).to_string();
+                assert!(said.starts_with(&format!("refusal {number}: ")), "{said}");
+            }
         }
         assert!(Refusal::of(6, 41, 0).to_string().contains("byte 41 "));
         assert!(
@@ -299,6 +369,10 @@ mod tests {
                 .to_string()
                 .contains("pair 17 (counted from 0) of the list `emoji`")
         );
+        assert!(Refusal::of(7, 41, 0).to_string().contains(": 41 bytes "));
+        assert!(Refusal::of(9, 41, 0).to_string().contains("line 41 (counted from 0) of the file"));
+        let said = Refusal::of_reader(7, 1, 41).to_string();
+        assert!(said.contains("the list `id continue`") && said.contains("41 numbers"), "{said}");
     }
 
     #[test]

@@ -572,31 +572,38 @@ struct Needs {
     keys_differ: usize,
 }
 
-/// A text that needs no lists is the same with any; the others are counted by what the lists do.
-fn compare_needs(texts: &[String], all: &[Owned]) -> Needs {
-    Owned([vec![], vec![], vec![]]).lend();
-    let with_none: Vec<(Option<usize>, Said)> =
-        texts.iter().map(|text| (lovemudarn::needs_lists(text).unwrap(), said(text))).collect();
+/// A text that needs no lists but these is the same with the newer ones; the others are counted by what
+/// those do.
+fn compare_needs(texts: &[String], these: &Owned, newer: &[Owned]) -> Needs {
+    let lists = these.lend();
+    let place = |text| lovemudarn::needs_newer_lists(text, &lists).unwrap();
+    let with_these: Vec<(Option<usize>, Said)> =
+        texts.iter().map(|text| (place(text), said(text))).collect();
+    if lists == Lists::EMPTY {
+        for (text, (place, _)) in texts.iter().zip(&with_these) {
+            assert_eq!(lovemudarn::needs_lists(text), Ok(*place), "{text:?}");
+        }
+    }
     let mut needs = Needs::default();
     let mut differs = vec![(false, false); texts.len()];
-    for owned in all {
+    for owned in newer {
         let lists = owned.lend();
-        for ((text, (place, none)), differs) in texts.iter().zip(&with_none).zip(&mut differs) {
-            let some = said(text);
+        for ((text, (place, old)), differs) in texts.iter().zip(&with_these).zip(&mut differs) {
+            let new = said(text);
             match *place {
                 None => {
-                    assert_eq!(some, *none, "{text:?}");
-                    assert_eq!(lovemudarn::key(text, &lists), none.key, "{text:?}");
+                    assert_eq!(new, *old, "{text:?}");
+                    assert_eq!(lovemudarn::key(text, &lists), old.key, "{text:?}");
                 }
                 Some(place) => {
                     assert!(!text[place..].starts_with(|c: char| c.is_ascii()), "{text:?}");
-                    differs.0 |= some.tokens != none.tokens;
-                    differs.1 |= some.key != none.key;
+                    differs.0 |= new.tokens != old.tokens;
+                    differs.1 |= new.key != old.key;
                 }
             }
         }
     }
-    for ((text, (place, none)), (tokens, keys)) in texts.iter().zip(&with_none).zip(differs) {
+    for ((text, (place, none)), (tokens, keys)) in texts.iter().zip(&with_these).zip(differs) {
         if place.is_some() {
             needs.bound += 1;
             needs.tokens_differ += usize::from(tokens);
@@ -642,7 +649,8 @@ fn a_text_that_needs_no_lists_is_the_same_with_any() {
         Owned([vec![], every(), vec![]]),
         Owned([vec![], vec![], every()]),
     ];
-    let short = compare_needs(&short_texts(4), &simple);
+    let none = Owned([vec![], vec![], vec![]]);
+    let short = compare_needs(&short_texts(4), &none, &simple);
     println!("short texts: {short:?}");
     let mut chance = Chance(number("LOVEMUDARN_SEED", 1));
     let texts: Vec<String> = (0..number("LOVEMUDARN_TEXTS", 40_000))
@@ -670,7 +678,7 @@ fn a_text_that_needs_no_lists_is_the_same_with_any() {
         .collect();
     let mut all = all_lists();
     all.extend(simple);
-    let random = compare_needs(&texts, &all);
+    let random = compare_needs(&texts, &none, &all);
     println!("random texts: {random:?}");
     for needs in [short, random] {
         let all = needs.free + needs.bound;
@@ -679,4 +687,47 @@ fn a_text_that_needs_no_lists_is_the_same_with_any() {
         // It is seldom asked for in vain.
         assert!(needs.tokens_differ * 10 > needs.bound * 9, "{needs:?}");
     }
+}
+
+/// The same of lists that are not empty: those of a few characters, and newer ones that hold others
+/// beside them.
+#[test]
+fn a_text_that_needs_no_newer_lists_is_the_same_with_them() {
+    let _turn = turn();
+    let mut chance = Chance(number("LOVEMUDARN_SEED", 1));
+    let mut texts = short_texts(3);
+    texts.extend((0..number("LOVEMUDARN_TEXTS", 40_000)).map(|_| match chance.below(3) {
+        0 => any_text(&mut chance),
+        _ => (0..4 + chance.below(9)).map(|_| chance.pick(TURNS)).collect(),
+    }));
+    let mut needs = Needs::default();
+    // What starts a name, goes on in one, and is emoji.
+    for these in [["é", "é", ""], ["", "é", ""], ["é", "", ""], ["😀", "é", "é"], ["", "", "😀"]]
+    {
+        let lists = |more: [bool; 3]| {
+            let of = |list: usize| {
+                pairs(|c| {
+                    these[list].contains(c) || more[list] && !these.iter().any(|l| l.contains(c))
+                })
+            };
+            Owned([of(0), of(1), of(2)])
+        };
+        let newer = [
+            [true, true, true],
+            [true, true, false],
+            [true, false, false],
+            [false, true, false],
+            [false, false, true],
+        ];
+        let one = compare_needs(&texts, &lists([false; 3]), &newer.map(lists));
+        println!("{these:?}: {one:?}");
+        needs.free += one.free;
+        needs.free_keys += one.free_keys;
+        needs.bound += one.bound;
+        needs.tokens_differ += one.tokens_differ;
+        needs.keys_differ += one.keys_differ;
+    }
+    let all = needs.free + needs.bound;
+    assert!(needs.free * 10 > all && needs.free_keys * 20 > all, "{needs:?}");
+    assert!(needs.bound * 5 > all && needs.keys_differ * 100 > all, "{needs:?}");
 }

@@ -5,13 +5,14 @@ use std::fmt::Debug;
 use std::hash::Hash;
 
 use lovemudarn::{
-    Advanced, Base, Cause, Cursor, DocStyle, FrontmatterAllowed, GuardedStr, ListName, Lists,
-    LiteralKind, RawStrError, Refusal, Run, Token, TokenKind, Tokens,
+    Advanced, Base, Cause, Cursor, DocStyle, FrontmatterAllowed, GuardedStr, Held, ListName, Lists,
+    LiteralKind, LoadedLists, RawStrError, Refusal, Run, Token, TokenKind, Tokens, Version,
 };
 
 const fn value<T: Clone + Copy + Debug + PartialEq + Eq + Hash + Send + Sync + 'static>() {}
 const fn ordered<T: Copy + PartialOrd + Ord>() {}
 const fn place<T: Clone + Debug + Send + Sync>() {}
+const fn owned<T: Clone + Debug + Default + PartialEq + Eq + Hash + Send + Sync + 'static>() {}
 
 const _: () = {
     // In rustc's lexer too: Clone, Copy, Debug, PartialEq, Eq.
@@ -38,6 +39,10 @@ const _: () = {
     value::<ListName>();
     value::<Lists>();
     value::<Refusal>();
+    value::<Version>();
+    ordered::<Version>();
+    value::<Held>();
+    owned::<LoadedLists>();
 };
 
 /// Each is less than the next.
@@ -86,4 +91,6 @@ fn orders() {
         no_end(2, 1, Some(0)),
         RawStrError::TooManyDelimiters { found: 0 },
     ]);
+    let version = |major, minor, update| Version { major, minor, update };
+    ascend(&[version(9, 10, 11), version(15, 0, 0), version(15, 0, 1), version(15, 1, 0)]);
 }

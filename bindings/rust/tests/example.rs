@@ -15,19 +15,26 @@ fn program() -> PathBuf {
 }
 
 fn run(text: impl AsRef<[u8]>) -> (Option<i32>, String, String) {
-    run_into(text.as_ref(), Stdio::piped())
+    run_into(text.as_ref(), &[], Stdio::piped())
 }
 
-fn run_into(text: &[u8], out: Stdio) -> (Option<i32>, String, String) {
+/// With the lists of a file.
+fn run_with(lists: &str, text: impl AsRef<[u8]>) -> (Option<i32>, String, String) {
+    run_into(text.as_ref(), &[lists], Stdio::piped())
+}
+
+fn run_into(text: &[u8], words: &[&str], out: Stdio) -> (Option<i32>, String, String) {
     let program = program();
     assert!(program.is_file(), "no {}: build the example `rule` first", program.display());
     let mut child = Command::new(program)
+        .args(words)
         .stdin(Stdio::piped())
         .stdout(out)
         .stderr(Stdio::piped())
         .spawn()
         .unwrap();
-    child.stdin.take().unwrap().write_all(text).unwrap();
+    // Where the lists are refused it is not read.
+    let _ = child.stdin.take().unwrap().write_all(text);
     let Output { status, stdout, stderr } = child.wait_with_output().unwrap();
     let words = |bytes| String::from_utf8(bytes).unwrap();
     (status.code(), words(stdout), words(stderr))
@@ -68,6 +75,38 @@ fn a_text_that_needs_lists_is_not() {
     assert_ne!(five.1.lines().next(), nine.1.lines().next());
 }
 
+const LISTS: &str = concat!(env!("CARGO_MANIFEST_DIR"), "/../../data/unicode-15.0.0.lists");
+
+/// With lists they have two, and a letter that is newer than the lists is as one past ASCII without.
+#[test]
+fn with_lists_it_is() {
+    for limit in ["5", "9"] {
+        let (status, out, said) = run_with(LISTS, format!("f!('é \"' // limit {limit}\");"));
+        assert_eq!((status, said.as_str()), (Some(0), ""));
+        let key = format!("key: f!(\\'\\xc3\\xa9\\n\\\"\\' // limit {limit}\\\");");
+        assert_eq!(out.lines().next(), Some(key.as_str()));
+        assert!(
+            out.contains("\nLifetime { starts_with_number: false }, length 3, start 3\n"),
+            "{out}"
+        );
+    }
+    let (status, out, said) = run_with(LISTS, "f!('\u{1c89} \"' // limit 5\");");
+    assert_eq!((status, out.as_str()), (Some(1), ""));
+    assert!(said.starts_with("not keyed: at byte 4 "), "{said}");
+    assert!(said.ends_with("; lend newer lists\n"), "{said}");
+}
+
+#[test]
+fn lists_that_cannot_be_read_are_told() {
+    let (status, out, said) = run_with("no such file", "a");
+    assert_eq!((status, out.as_str()), (Some(2), ""));
+    assert!(said.starts_with("no lists from no such file: "), "{said}");
+    let here = concat!(env!("CARGO_MANIFEST_DIR"), "/tests/example.rs");
+    let (status, out, said) = run_with(here, "a");
+    assert_eq!((status, out.as_str()), (Some(2), ""));
+    assert!(said.starts_with(&format!("no lists from {here}: refusal 9: line 0 ")), "{said}");
+}
+
 #[test]
 fn a_refusal_is_explained() {
     let (status, out, said) = run("let unit = \"mg;\n");
@@ -93,7 +132,7 @@ fn it_is_said_why_a_text_is_not_utf8() {
 #[test]
 fn a_full_disk_is_told() {
     let full = OpenOptions::new().write(true).open("/dev/full").unwrap();
-    let (status, _, said) = run_into(b"a", full.into());
+    let (status, _, said) = run_into(b"a", &[], full.into());
     assert_eq!(status, Some(2));
     assert!(said.starts_with("standard output cannot be written"), "{said}");
 }

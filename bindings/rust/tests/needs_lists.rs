@@ -1,6 +1,6 @@
 //! Where a text needs lists. tests/beside_000.rs compares what this promises with rustc's lexer.
 
-use lovemudarn::{Cause, Lists, Refusal, key, needs_lists};
+use lovemudarn::{Cause, ListName, Lists, Refusal, key, needs_lists, needs_newer_lists};
 
 #[test]
 fn places() {
@@ -52,6 +52,7 @@ fn places() {
         ("\"é", None),
     ] {
         assert_eq!(needs_lists(text), Ok(place), "{text:?}");
+        assert_eq!(needs_newer_lists(text, &Lists::EMPTY), Ok(place), "{text:?}");
     }
     for (text, cause) in
         [(b"a\xff(", Cause::Start), (b"a\xe2\x82", Cause::Cut), (b"a\xe2(", Cause::Follow)]
@@ -72,4 +73,47 @@ fn why_it_is_asked() {
     let lists = Lists { id_start: &[0xE9, 0xE9], id_continue: &[0xE9, 0xE9], emoji: &[] };
     assert_eq!(key(five, &lists).unwrap(), "f!('é\n\"' // limit 5\");".as_bytes());
     assert_eq!(key(nine, &lists).unwrap(), "f!('é\n\"' // limit 9\");".as_bytes());
+}
+
+/// With lists: é begins a name, U+0301 goes on in one, U+2764 is emoji, and ß and 日 are in none.
+#[test]
+fn places_with_lists() {
+    let lists = Lists {
+        id_start: &[0xE9, 0xE9],
+        id_continue: &[0xE9, 0xE9, 0x301, 0x301],
+        emoji: &[0x2764, 0x2764],
+    };
+    for (text, place) in [
+        // What the lists judge.
+        ("é naéve a\u{301} 'é 'éa r#é k#é 'r#é 1é \"\"é éb\"\" a❤ ❤", None),
+        ("f!('é \"' // limit 5\");", None),
+        ("'é' 'ß' '日' 'éé' 'éa'u8", None),
+        ("// ß\n\"日\" r#\"ß\"# b'ß'", None),
+        // What they do not.
+        ("f!('ß \"' // limit 5\");", Some(4)),
+        ("éß", Some(2)),
+        ("é日é", Some(2)),
+        ("'éß", Some(3)),
+        ("'éß'", Some(3)),
+        ("'ßé'", Some(1)),
+        ("'❤a'", Some(1)),
+        ("'\u{301}a'", Some(1)),
+        ("\u{301}", Some(0)),
+        ("a❤ß", Some(4)),
+        ("r#ß", Some(2)),
+        ("r#éß", Some(4)),
+        ("k#ß", Some(2)),
+        ("1ß", Some(1)),
+        ("\u{feff}a", Some(0)),
+        // Broken with any lists.
+        ("r##é", None),
+        ("r\"é", None),
+    ] {
+        assert_eq!(needs_newer_lists(text, &lists), Ok(place), "{text:?}");
+    }
+    let bad = Lists { emoji: &[1], ..lists };
+    let refusal = Refusal::List { list: ListName::Emoji, pair: 0 };
+    assert_eq!(needs_newer_lists(b"\xff", &bad), Err(refusal));
+    let refusal = Refusal::NotUtf8 { at: 0, cause: Cause::Start };
+    assert_eq!(needs_newer_lists(b"\xff", &lists), Err(refusal));
 }

@@ -229,15 +229,15 @@ fn survey_records(file: &[u8], version: Version, from: usize) -> Survey
 fn survey_file(file: &[u8]) -> Survey
     ensures { λ r. ⌜ r ≡ surveyed (length (piece 10 (now (file .entry))) + 1) (load (now (file .entry))) ⌝ }
 {
-    let end = fields::find(file, 0, 10);
-    if file.len() <= end {
+    let first_end = fields::find(file, 0, 10);
+    if file.len() <= first_end {
         return Survey::Line(0);
     }
-    let first = lists_file::version_of(&file[..end]);
+    let first = lists_file::version_of(&file[..first_end]);
     let First::Version(version) = first else {
         return Survey::Line(0);
     };
-    survey_records(file, version, end + 1)
+    survey_records(file, version, first_end + 1)
 }
 
 // Refusal 3 for a list: the count first, then the pairs.

@@ -240,6 +240,13 @@ fn file_room() -> [u8; 262145]
     [0; 262145]
 }
 
+// Zeros for an answer.
+fn answer_room() -> [u8; 262144]
+    ensures { λ r. ⌜ 262144 ≡ length r ⌝ }
+{
+    [0; 262144]
+}
+
 fn nothing() -> Tally
     ensures { λ r. ⌜ (r .same ≡ 0) × (r .other ≡ 0) ⌝ }
 {
@@ -264,7 +271,7 @@ fn file(path: &[u8]) -> Tally {
     if 262144 < n {
         return nothing();
     }
-    let mut out = io::large_buffer();
+    let mut out = answer_room();
     sections(&s[..n], &mut out)
 }
 

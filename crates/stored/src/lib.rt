@@ -4,6 +4,7 @@
 // is too short or out has no room, which no stored answer agrees with. Promised is that it stays within out; that the bytes are the right ones is
 // judged by the stored answers, and by damaged ones, which must be seen to differ (tools/damaged-vectors).
 mod checks;
+mod files;
 mod keys;
 mod lists;
 mod runs;
@@ -38,6 +39,8 @@ pub fn answer(
         15 => lists::records(input, starts, continues, emoji, out),
         16 => lists::slots(input, starts, continues, emoji, out),
         17 => keys::key_of(input, starts, continues, emoji, out),
+        18 => files::read(input, out),
+        19 => files::write(input, starts, continues, emoji, out),
         _ => 0,
     }
 }

@@ -4,8 +4,8 @@ use std::str::from_utf8;
 
 use lovemudarn::{
     Cause, Cursor, FrontmatterAllowed, Lists, Refusal, advance_token, check,
-    guarded_double_quoted_string, is_ident, key, key_into, needs_lists, strip_shebang, tokenize,
-    tokenize_into, tokens_from, validate_raw_str,
+    guarded_double_quoted_string, is_ident, key, key_into, needs_lists, needs_newer_lists,
+    strip_shebang, tokenize, tokenize_into, tokens_from, validate_raw_str,
 };
 
 /// The refusal of a text by Rust's own library alone; `None` where the text is UTF-8.
@@ -29,6 +29,7 @@ pub fn by_rust(text: &[u8]) -> Option<Refusal> {
 pub fn every_call_refuses(text: &[u8], lists: &Lists, refusal: Refusal) {
     assert_eq!(check(text, lists), Err(refusal), "{text:x?}");
     assert_eq!(needs_lists(text), Err(refusal), "{text:x?}");
+    assert_eq!(needs_newer_lists(text, lists), Err(refusal), "{text:x?}");
     assert_eq!(is_ident(text, lists), Err(refusal), "{text:x?}");
     assert_eq!(strip_shebang(text), Err(refusal), "{text:x?}");
     assert_eq!(key(text, lists), Err(refusal), "{text:x?}");
