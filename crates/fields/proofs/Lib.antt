@@ -3,3 +3,4 @@ pub mod Words
 pub mod Values
 pub mod Numerals
 pub mod Puts
+pub mod Answers

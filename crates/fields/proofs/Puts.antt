@@ -7,10 +7,10 @@ use mathlib.Core.Logic.{⊎-elim}
 use borrow.Author.Tests.{lt-ltb, le-ltb}
 use lib.Dec.{ltb}
 use lib.ListN.{length, take, length-append}
-use native.Mathlib.Nat.{pow-suc, pow-zero, mod-eq-of-lt, div-lt-iff-lt-mul, le-div-iff-mul-le, mul-le-mul-left, mul-le-mul-right}
+use native.Mathlib.Nat.{pow-suc, pow-zero, mod-eq-of-lt, div-lt-iff-lt-mul, le-div-iff-mul-le, div-lt-self, mul-le-mul-left, mul-le-mul-right}
 use native.Mathlib.Omega.{arith}
 use Rattle.basics.specs.Choice.{pick}
-use Rattle.basics.proofs.Choices.{below-or-not}
+use Rattle.basics.proofs.Choices.{below-or-not, by-pick}
 use Rattle.io.specs.Digits.{digits, glyph, Fewest}
 use Rattle.puts.specs.Put.{Put}
 use Rattle.fields.specs.Numerals.{digitByte, lastDigits, numeral, Base}
@@ -92,6 +92,26 @@ module _ {base : ℕ} (b : Base base) where
   pub few-digits : (k n : ℕ) → n < base ^ suc k → length (numeral base n) ≤ suc k
   unfolding numeral
   few-digits k n h = few-last k (suc n) n h
+
+  -- and one from a power on has more
+  some-last : (most n : ℕ) → n < most → 1 ≤ length (lastDigits base most n)
+  some-last zero n h = absurd (omega arith)
+  some-last (suc most) n h = by-pick (λ (s : List ℕ). 1 ≤ length s) (ltb n base) _ _ (λ _. omega arith) (λ _. omega (arith, length-append (lastDigits base most (n / base)) (digitByte (n % base) ∷ [])))
+
+  more-last : (k most n : ℕ) → n < most → base ^ k ≤ n → suc k ≤ length (lastDigits base most n)
+  more-last zero most n h l = some-last most n h
+  more-last (suc k) zero n h l = absurd (omega arith)
+  more-last (suc k) (suc most) n h l =
+      let z : 0 < base = omega (arith, b .least) in
+      let p : base ^ k * base ≤ n = omega (arith, pow-suc base k) in
+      let o : 1 * base ≤ base ^ k * base = mul-le-mul-right base (omega (arith, above k)) in
+      let d : n / base < n = div-lt-self {n = n} {k = base} (omega arith) (omega (arith, b .least)) in
+      let m : suc k ≤ length (lastDigits base most (n / base)) = more-last k most (n / base) (omega arith) (le-div-iff-mul-le z .1 p) in
+      rw (le-ltb n base (omega arith)) (omega (arith, length-append (lastDigits base most (n / base)) (digitByte (n % base) ∷ [])))
+
+  pub more-digits : (k n : ℕ) → base ^ k ≤ n → suc k ≤ length (numeral base n)
+  unfolding numeral
+  more-digits k n h = more-last k (suc n) n (omega arith) h
 
   -- DIGITS THAT WERE MADE: there is room for them, and put they are the number
   module _ (n k : ℕ) (t : List ℕ) (f : Fewest base 1 n k) (d : take k t ≡ digits base k n) where

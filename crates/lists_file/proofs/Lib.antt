@@ -3,3 +3,5 @@ pub mod Texts
 pub mod Loads
 pub mod RoundTrip
 pub mod FirstBad
+pub mod Answers
+pub mod Digits
