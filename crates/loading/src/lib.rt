@@ -4,7 +4,7 @@
 ghost use mathlib.Core.Path.{_≡_};
 ghost use mathlib.Core.Bool.{false};
 ghost use lib.ListN.{length};
-ghost use Rattle.loading.specs.Inside.{loading, Inside};
+ghost use Rattle.loading.specs.Inside.{loading, Inside, Loaded};
 use lists_in::ReadAnswer;
 use refusal::Bad;
 
@@ -43,7 +43,7 @@ fn file_room() -> [u8; 524289]
 
 // The lists in the bytes of a file.
 fn load_bytes(file: &[u8], starts: &mut [u32], continues: &mut [u32], emoji: &mut [u32]) -> Loading
-    ensures { λ r. ⌜ Inside (now (starts .exit)) (now (continues .exit)) (now (emoji .exit)) r ⌝ }
+    ensures { λ r. ⌜ Loaded (now (file .entry)) (now (starts .exit)) (now (continues .exit)) (now (emoji .exit)) r ⌝ }
 {
     let answer = lists_in::read_lists(file, starts, continues, emoji);
     match answer {

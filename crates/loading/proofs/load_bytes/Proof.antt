@@ -1,5 +1,5 @@
 -- `loading::load_bytes` meets its contract (Insides).
-use Rattle.loading.proofs.Insides.{loaded-inside, nothing-inside}
+use Rattle.loading.proofs.Insides.{loaded-inside, nothing-loaded}
 use borrow.Author.Needs.{needs}
 use Rattle.loading.proofs.load_bytes.Statement.{statement}
 use Rattle.loading.proofs.load_bytes.Tie as tie
@@ -41,7 +41,7 @@ same-length-6 : tie.Need-same-length-6
 same-length-6 c = search needs
 
 returns-2 : tie.Need-returns-2
-returns-2 c = search nothing-inside
+returns-2 c = search nothing-loaded
 
 pub load-bytes-spec : {M : Type 1} → statement M
 load-bytes-spec =
