@@ -11,7 +11,8 @@ use Rattle.lists_file.specs.declared.Version.{Version}
 use Rattle.lists_file.specs.declared.Entry.{Entry}
 use Rattle.lists_file.specs.Names.{newline}
 use Rattle.lists_file.specs.File.{IsFile}
-use Rattle.lists_file.specs.Load.{loaded, badLine, added, loadFrom, loadLines, load, firstLines, FirstBad}
+use Rattle.lists_file.specs.Load.{loaded, badLine, added, loadFrom, loadLines, load}
+use Rattle.lists_file.specs.FirstBad.{firstLines, FirstBad}
 use Rattle.lists_file.proofs.Loads.{Step, stops, goes-on, step, FirstStep, first-stops, first-goes-on, first-step}
 use Rattle.lists_file.proofs.RoundTrip.{Holds, holds, no-file}
 

@@ -5,3 +5,4 @@ pub mod RoundTrip
 pub mod FirstBad
 pub mod Answers
 pub mod Digits
+mod Rows

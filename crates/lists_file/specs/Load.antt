@@ -1,8 +1,7 @@
 -- WHAT A FILE HOLDS (document 02, W1): a version and three lists, or the number, from 0, of its first bad line.
 use Prim.Native.Nat.{ℕ, zero, suc}
-use mathlib.Core.Path.{_≡_}
 use mathlib.Core.List.{List, [], _∷_, _++_}
-use lib.Dec.{ltb, eqb}
+use lib.Dec.{ltb}
 use Rattle.basics.specs.Choice.{pick}
 use Rattle.token.specs.Lists.{Lists, lent, none}
 use Rattle.fields.specs.Pieces.{parted}
@@ -10,7 +9,6 @@ use Rattle.lists_file.specs.declared.Version.{Version}
 use Rattle.lists_file.specs.declared.First.the-variants as first
 use Rattle.lists_file.specs.declared.Line.the-variants as line
 use Rattle.lists_file.specs.Names.{newline}
-use Rattle.lists_file.specs.File.{IsFile}
 use Rattle.lists_file.specs.Lines.{recordOf, versionOf}
 
 pub data Read : Type 0 where
@@ -45,14 +43,3 @@ loadLines (text ∷ lines) rest = elim (versionOf text) [ first.Version v ↦ lo
 
 unfoldable pub load : (file : List ℕ) → Read
 load file = loadLines (parted newline file .ended) (parted newline file .rest)
-
--- THE FIRST BAD LINE, said without the reader: the lines before it are a file by themselves, and with it they are none. (There is none before line 0.)
--- The first lines of a text, each with its LF, which the last one may lack.
-unfoldable pub firstLines : (many : ℕ) → List ℕ → List ℕ
-firstLines zero s = []
-firstLines (suc many) [] = []
-firstLines (suc many) (c ∷ s) = c ∷ pick (eqb c newline) (firstLines many s) (firstLines (suc many) s)
-
-pub record FirstBad (s : List ℕ) (index : ℕ) : Type 0 where
-  pub before : (index ≡ 0 → ⊥) → IsFile (firstLines index s)
-  pub here : IsFile (firstLines (suc index) s) → ⊥
