@@ -10,7 +10,7 @@
 #include <string.h>
 #include "lovemudarn.h"
 
-enum { MOST = 65536, MOST_LISTS = 524288, RUN = 2 * LOVEMUDARN_MAX_PAIRS }; /* no file of lists has more bytes than that */
+enum { MOST = 65536, RUN = 2 * LOVEMUDARN_MAX_PAIRS, MOST_LISTS = 524288 /* no file of lists has more bytes */ };
 
 static uint8_t text[MOST + 1], key[MOST], file[MOST_LISTS + 1];
 static uint32_t slots[4 * MOST]; /* n bytes have at most n tokens, each of which takes four numbers */

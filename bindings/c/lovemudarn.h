@@ -267,8 +267,8 @@ struct lovemudarn_lists_answer lovemudarn_read_lists(const uint8_t *file, size_t
                                                      size_t continues_len, uint32_t *emoji, size_t emoji_len);
 
 /* The file of a version and three lists: 9 with 0 where a number of the version is over 65,535, for then the first line would be bad; 3, 7, or 0 with the bytes of
- * the file beside it. Version and lists have one file, to the byte: reading it gives them back, and what is read from a file has that file. It has at most
- * 26 + 23 bytes for each pair. */
+ * the file beside it. Version and lists have one file, to the byte: reading it gives them back, and what is read from a file has that file. It has at most 26
+ * bytes, and 23 more for each pair. */
 struct lovemudarn_answer lovemudarn_write_lists(uint32_t major, uint32_t minor, uint32_t update, const uint32_t *starts, size_t starts_len,
                                                 const uint32_t *continues, size_t continues_len, const uint32_t *emoji, size_t emoji_len, uint8_t *out,
                                                 size_t out_len);

@@ -590,6 +590,340 @@ static void test_not_utf8(void) {
     of = "";
 }
 
+/* The runs of the reader of lists and the buffer of the writer, filled with what no file of these tests has. */
+static uint32_t run_starts[8], run_continues[8], run_emoji[8];
+static uint8_t file_out[192];
+
+static void fill_lists(void) {
+    for (size_t i = 0; i < 8; i += 1) run_starts[i] = run_continues[i] = run_emoji[i] = UNTOUCHED;
+}
+
+static void fill_file(void) {
+    for (size_t i = 0; i < 192; i += 1) file_out[i] = 0xA5;
+}
+
+/* what the runs hold: so many numbers each, and past them what was there */
+static void lists_hold(const char *what, const uint32_t *starts, size_t starts_len, const uint32_t *continues, size_t continues_len, const uint32_t *emoji,
+                       size_t emoji_len) {
+    for (size_t i = 0; i < 8; i += 1) {
+        same(what, "a number of the first run", run_starts[i], i < starts_len ? starts[i] : UNTOUCHED);
+        same(what, "a number of the second run", run_continues[i], i < continues_len ? continues[i] : UNTOUCHED);
+        same(what, "a number of the third run", run_emoji[i], i < emoji_len ? emoji[i] : UNTOUCHED);
+    }
+}
+
+static void file_holds(const char *what, const uint8_t *right, size_t count) {
+    for (size_t i = 0; i < 192; i += 1) same(what, "a byte of the file", file_out[i], i < count ? right[i] : 0xA5);
+}
+
+static void lists(const char *what, struct lovemudarn_lists_answer a, unsigned long number, unsigned long beside, unsigned long second, unsigned long major,
+                  unsigned long minor, unsigned long update, unsigned long starts, unsigned long continues, unsigned long emoji) {
+    same(what, "number", a.number, number);
+    same(what, "beside", a.beside, beside);
+    same(what, "second", a.second, second);
+    same(what, "major", a.major, major);
+    same(what, "minor", a.minor, minor);
+    same(what, "update", a.update, update);
+    same(what, "starts", a.starts, starts);
+    same(what, "continues", a.continues, continues);
+    same(what, "emoji", a.emoji, emoji);
+}
+
+static void no_lists(const char *what, struct lovemudarn_lists_answer a, unsigned long number, unsigned long beside, unsigned long second) {
+    lists(what, a, number, beside, second, 0, 0, 0, 0, 0, 0);
+}
+
+/* the reader, with so much room in each run */
+static struct lovemudarn_lists_answer reads(const uint8_t *file, size_t len, size_t starts, size_t continues, size_t emoji) {
+    return lovemudarn_read_lists(file, len, run_starts, starts, run_continues, continues, run_emoji, emoji);
+}
+
+/* a file that is refused, and nothing is written, with much room or none */
+static void not_read(const char *what, const uint8_t *file, size_t len, unsigned long number, unsigned long beside, unsigned long second) {
+    fill_lists();
+    no_lists(what, reads(file, len, 8, 8, 8), number, beside, second);
+    no_lists(what, reads(file, len, 0, 0, 0), number, beside, second);
+    lists_hold(what, NO_LISTS);
+}
+
+/* a file with two, three and one pair in its lists, whose numbers have two to six digits; and what it holds */
+#define SMALL                                                                                      \
+    "unicode\t15\t0\t1\nstart\taa\taa\nstart\tfff\t1000\ncontinue\t300\t36f\n"                      \
+    "continue\tffff\t10000\ncontinue\tfffff\t100000\nemoji\t1f600\t10ffff\n"
+static const uint32_t small_starts[4] = {0xAA, 0xAA, 0xFFF, 0x1000};
+static const uint32_t small_continues[6] = {0x300, 0x36F, 0xFFFF, 0x10000, 0xFFFFF, 0x100000};
+static const uint32_t small_emoji[2] = {0x1F600, 0x10FFFF};
+#define SMALL_LISTS LIST(small_starts), LIST(small_continues), LIST(small_emoji)
+/* the first line of the others */
+#define FIRST_LINE "unicode\t15\t0\t0\n"
+
+/* Files with a bad line, and the first. */
+static const struct {
+    const char *name;
+    const uint8_t *file;
+    size_t len, line;
+} bad_lines[] = {
+    /* the first line */
+    {"nothing", TEXT(""), 0},
+    {"an empty line", TEXT("\n"), 0},
+    {"no LF", TEXT("unicode\t15\t0\t0"), 0},
+    {"two numbers", TEXT("unicode\t15\t0\n"), 0},
+    {"four numbers", TEXT("unicode\t15\t0\t0\t0\n"), 0},
+    {"no number", TEXT("unicode\n"), 0},
+    {"an empty number", TEXT("unicode\t\t0\t0\n"), 0},
+    {"a tab at the end", TEXT("unicode\t15\t0\t0\t\n"), 0},
+    {"another word", TEXT("Unicode\t15\t0\t0\n"), 0},
+    {"a longer word", TEXT("unicodes\t15\t0\t0\n"), 0},
+    {"a part of the word", TEXT("unicod\t15\t0\t0\n"), 0},
+    {"blanks", TEXT("unicode 15 0 0\n"), 0},
+    {"CR", TEXT("unicode\t15\t0\t0\r\n"), 0},
+    {"a byte order mark", TEXT("\357\273\277unicode\t15\t0\t0\n"), 0},
+    {"a leading zero", TEXT("unicode\t015\t0\t0\n"), 0},
+    {"two zeros", TEXT("unicode\t15\t00\t0\n"), 0},
+    {"a sign", TEXT("unicode\t+15\t0\t0\n"), 0},
+    {"hexadecimal", TEXT("unicode\tf\t0\t0\n"), 0},
+    {"65536 in the first place", TEXT("unicode\t65536\t0\t0\n"), 0},
+    {"65536 in the second", TEXT("unicode\t0\t65536\t0\n"), 0},
+    {"65536 in the third", TEXT("unicode\t0\t0\t65536\n"), 0},
+    {"2 to the 32", TEXT("unicode\t4294967296\t0\t0\n"), 0},
+    {"2 to the 64", TEXT("unicode\t18446744073709551616\t0\t0\n"), 0},
+    {"a record", TEXT("start\taa\taa\n"), 0},
+    /* a record */
+    {"an empty second line", TEXT(FIRST_LINE "\n"), 1},
+    {"another first line", TEXT(FIRST_LINE FIRST_LINE), 1},
+    {"a record without LF", TEXT(FIRST_LINE "start\taa\taa"), 1},
+    {"a record with CR", TEXT(FIRST_LINE "start\taa\taa\r\n"), 1},
+    {"no high", TEXT(FIRST_LINE "start\taa\n"), 1},
+    {"an empty high", TEXT(FIRST_LINE "start\taa\t\n"), 1},
+    {"an empty low", TEXT(FIRST_LINE "start\t\taa\n"), 1},
+    {"three numbers", TEXT(FIRST_LINE "start\taa\taa\taa\n"), 1},
+    {"blanks in a record", TEXT(FIRST_LINE "start aa aa\n"), 1},
+    {"no list of this name", TEXT(FIRST_LINE "starts\taa\taa\n"), 1},
+    {"no name", TEXT(FIRST_LINE "\taa\taa\n"), 1},
+    {"upper case", TEXT(FIRST_LINE "start\tAA\taa\n"), 1},
+    {"no digit", TEXT(FIRST_LINE "start\taa\tag\n"), 1},
+    {"a byte 0", TEXT(FIRST_LINE "start\taa\0\taa\n"), 1},
+    {"a byte past ASCII", TEXT(FIRST_LINE "start\taa\taa\377\n"), 1},
+    {"a leading zero in a record", TEXT(FIRST_LINE "start\t0aa\taa\n"), 1},
+    {"0x", TEXT(FIRST_LINE "start\t0xaa\taa\n"), 1},
+    {"seven digits", TEXT(FIRST_LINE "start\taa\t1000000\n"), 1},
+    {"2 to the 64 in a record", TEXT(FIRST_LINE "start\taa\t10000000000000000\n"), 1},
+    /* further on */
+    {"an empty last line", TEXT(FIRST_LINE "start\taa\taa\n\n"), 2},
+    {"the first of two", TEXT(FIRST_LINE "start\taa\taa\nstart\tb5\tb5\nstart\nemoji\n"), 3},
+    {"start after continue", TEXT(FIRST_LINE "continue\taa\taa\nstart\tb5\tb5\n"), 2},
+    {"start after emoji", TEXT(FIRST_LINE "emoji\taa\taa\nstart\tb5\tb5\n"), 2},
+    {"continue after emoji", TEXT(FIRST_LINE "start\taa\taa\nemoji\taa\taa\nemoji\tb5\tb5\ncontinue\tb5\tb5\n"), 4},
+    /* 9 before 3 */
+    {"a bad pair before it", TEXT(FIRST_LINE "start\t41\t5a\nstart\n"), 2},
+};
+
+static void test_read_lists(void) {
+    same("the refusals", "a bad line", LOVEMUDARN_BAD_LINE, 9);
+    fill_lists();
+    lists("a small file", reads(TEXT(SMALL), 8, 8, 8), LOVEMUDARN_DONE, 0, 0, 15, 0, 1, 4, 6, 2);
+    lists_hold("a small file", SMALL_LISTS);
+    fill_lists();
+    lists("just room", reads(TEXT(SMALL), 4, 6, 2), LOVEMUDARN_DONE, 0, 0, 15, 0, 1, 4, 6, 2);
+    lists_hold("just room", SMALL_LISTS);
+
+    /* 7: each list with one number too few, two and more, and the first of them is named */
+    fill_lists();
+    for (size_t room = 0; room < 4; room += 1) {
+        no_lists("too little for starts", reads(TEXT(SMALL), room, 8, 8), LOVEMUDARN_SHORT_BUFFER, LOVEMUDARN_LIST_STARTS, 4);
+        no_lists("too little for all", reads(TEXT(SMALL), room, room / 2, room / 2), LOVEMUDARN_SHORT_BUFFER, LOVEMUDARN_LIST_STARTS, 4);
+    }
+    for (size_t room = 0; room < 6; room += 1) {
+        no_lists("too little for continues", reads(TEXT(SMALL), 4, room, 8), LOVEMUDARN_SHORT_BUFFER, LOVEMUDARN_LIST_CONTINUES, 6);
+        no_lists("too little for two", reads(TEXT(SMALL), 8, room, room / 3), LOVEMUDARN_SHORT_BUFFER, LOVEMUDARN_LIST_CONTINUES, 6);
+    }
+    for (size_t room = 0; room < 2; room += 1)
+        no_lists("too little for emoji", reads(TEXT(SMALL), 4, 6, room), LOVEMUDARN_SHORT_BUFFER, LOVEMUDARN_LIST_EMOJI, 2);
+    lists_hold("too little room", NO_LISTS);
+
+    /* lists without a pair, all of them and some */
+    lists("a version alone", reads(TEXT(FIRST_LINE), 0, 0, 0), LOVEMUDARN_DONE, 0, 0, 15, 0, 0, 0, 0, 0);
+    lists("a version alone", reads(TEXT(FIRST_LINE), 8, 8, 8), LOVEMUDARN_DONE, 0, 0, 15, 0, 0, 0, 0, 0);
+    lists_hold("a version alone", NO_LISTS);
+    lists("starts alone", reads(TEXT(FIRST_LINE "start\te9\te9\n"), 2, 0, 0), LOVEMUDARN_DONE, 0, 0, 15, 0, 0, 2, 0, 0);
+    lists_hold("starts alone", LIST(letters), NONE, NONE);
+    fill_lists();
+    lists("continues alone", reads(TEXT(FIRST_LINE "continue\te9\te9\n"), 0, 2, 0), LOVEMUDARN_DONE, 0, 0, 15, 0, 0, 0, 2, 0);
+    lists_hold("continues alone", NONE, LIST(letters), NONE);
+    fill_lists();
+    lists("emoji alone", reads(TEXT(FIRST_LINE "emoji\t1f600\t1f64f\n"), 0, 0, 2), LOVEMUDARN_DONE, 0, 0, 15, 0, 0, 0, 0, 2);
+    lists_hold("emoji alone", NONE, NONE, LIST(faces));
+    fill_lists();
+    lists("no continues", reads(TEXT(FIRST_LINE "start\te9\te9\nemoji\t1f600\t1f64f\n"), 8, 8, 8), LOVEMUDARN_DONE, 0, 0, 15, 0, 0, 2, 0, 2);
+    lists_hold("no continues", LIST(letters), NONE, LIST(faces));
+
+    /* versions */
+    lists("0.0.0", reads(TEXT("unicode\t0\t0\t0\n"), 8, 8, 8), LOVEMUDARN_DONE, 0, 0, 0, 0, 0, 0, 0, 0);
+    lists("65535 in each place", reads(TEXT("unicode\t65535\t65535\t65535\n"), 8, 8, 8), LOVEMUDARN_DONE, 0, 0, 65535, 65535, 65535, 0, 0, 0);
+    lists("three numbers", reads(TEXT("unicode\t9\t10\t3267\n"), 8, 8, 8), LOVEMUDARN_DONE, 0, 0, 9, 10, 3267, 0, 0, 0);
+
+    /* 9 */
+    of = "a bad line: ";
+    for (size_t i = 0; i < sizeof bad_lines / sizeof bad_lines[0]; i += 1)
+        not_read(bad_lines[i].name, bad_lines[i].file, bad_lines[i].len, LOVEMUDARN_BAD_LINE, bad_lines[i].line, 0);
+    of = "";
+
+    /* 3, in each list, before 7; the first list, and its first pair */
+    not_read("a pair below 0x80", TEXT(FIRST_LINE "start\t7f\t80\n"), LOVEMUDARN_BAD_LIST, LOVEMUDARN_LIST_STARTS, 0);
+    not_read("0", TEXT(FIRST_LINE "start\t0\t0\n"), LOVEMUDARN_BAD_LIST, LOVEMUDARN_LIST_STARTS, 0);
+    not_read("six digits", TEXT(FIRST_LINE "emoji\taa\tffffff\n"), LOVEMUDARN_BAD_LIST, LOVEMUDARN_LIST_EMOJI, 0);
+    not_read("past U+10FFFF", TEXT(FIRST_LINE "start\te9\te9\ncontinue\t10ffff\t110000\n"), LOVEMUDARN_BAD_LIST, LOVEMUDARN_LIST_CONTINUES, 0);
+    not_read("a surrogate", TEXT(FIRST_LINE "continue\te9\te9\ncontinue\td700\td800\n"), LOVEMUDARN_BAD_LIST, LOVEMUDARN_LIST_CONTINUES, 1);
+    not_read("U+0085", TEXT(FIRST_LINE "emoji\t80\t84\nemoji\t85\t85\n"), LOVEMUDARN_BAD_LIST, LOVEMUDARN_LIST_EMOJI, 1);
+    not_read("not above", TEXT(FIRST_LINE "emoji\taa\taa\nemoji\tb5\tb5\nemoji\tb5\tb6\n"), LOVEMUDARN_BAD_LIST, LOVEMUDARN_LIST_EMOJI, 2);
+    not_read("high below low", TEXT(FIRST_LINE "start\tab\taa\n"), LOVEMUDARN_BAD_LIST, LOVEMUDARN_LIST_STARTS, 0);
+    not_read("lists in order", TEXT(FIRST_LINE "start\te9\te9\ncontinue\t1\t1\nemoji\t1\t1\n"), LOVEMUDARN_BAD_LIST, LOVEMUDARN_LIST_CONTINUES, 0);
+}
+
+/* the writer of the small lists, with this version */
+#define WRITE(major, minor, update, room) lovemudarn_write_lists(major, minor, update, SMALL_LISTS, file_out, room)
+/* a file of a version alone */
+#define VERSION(major, minor, update, right)                                                                                                  \
+    (fill_file(), answer(right, lovemudarn_write_lists(major, minor, update, NO_LISTS, file_out, 192), LOVEMUDARN_DONE, sizeof(right) - 1, 0), \
+     file_holds(right, TEXT(right)))
+
+/* lists that have no file, and nothing is written, with much room or none */
+static void no_file(const char *what, const uint32_t *starts, size_t starts_len, const uint32_t *continues, size_t continues_len, const uint32_t *emoji,
+                    size_t emoji_len, unsigned long list, unsigned long pair) {
+    fill_file();
+    for (size_t room = 0; room <= 192; room += 192)
+        answer(what, lovemudarn_write_lists(15, 0, 0, starts, starts_len, continues, continues_len, emoji, emoji_len, file_out, room), LOVEMUDARN_BAD_LIST,
+               list, pair);
+    file_holds(what, TEXT(""));
+}
+
+static void test_write_lists(void) {
+    const size_t bytes = sizeof SMALL - 1;
+    same("a small file", "its bytes", bytes, 15 + 12 + 15 + 17 + 20 + 22 + 19);
+    fill_file();
+    answer("a small file", WRITE(15, 0, 1, 192), LOVEMUDARN_DONE, bytes, 0);
+    file_holds("a small file", TEXT(SMALL));
+    fill_file();
+    answer("just room", WRITE(15, 0, 1, bytes), LOVEMUDARN_DONE, bytes, 0);
+    file_holds("just room", TEXT(SMALL));
+    fill_file();
+    answer("one byte short", WRITE(15, 0, 1, bytes - 1), LOVEMUDARN_SHORT_BUFFER, bytes, 0);
+    answer("two bytes short", WRITE(15, 0, 1, bytes - 2), LOVEMUDARN_SHORT_BUFFER, bytes, 0);
+    answer("no byte", WRITE(15, 0, 1, 0), LOVEMUDARN_SHORT_BUFFER, bytes, 0);
+    file_holds("too short", TEXT(""));
+    answer("no list, no byte", lovemudarn_write_lists(15, 0, 0, NO_LISTS, file_out, 0), LOVEMUDARN_SHORT_BUFFER, 15, 0);
+    answer("no list, one byte short", lovemudarn_write_lists(15, 0, 0, NO_LISTS, file_out, 14), LOVEMUDARN_SHORT_BUFFER, 15, 0);
+    file_holds("no list", TEXT(""));
+    fill_file();
+    answer("no continues", lovemudarn_write_lists(15, 0, 0, LIST(letters), NONE, LIST(faces), file_out, 192), LOVEMUDARN_DONE, 45, 0);
+    file_holds("no continues", TEXT(FIRST_LINE "start\te9\te9\nemoji\t1f600\t1f64f\n"));
+    fill_file();
+    answer("continues alone", lovemudarn_write_lists(15, 0, 0, NONE, LIST(letters), NONE, file_out, 192), LOVEMUDARN_DONE, 30, 0);
+    file_holds("continues alone", TEXT(FIRST_LINE "continue\te9\te9\n"));
+
+    /* versions */
+    VERSION(15, 0, 0, "unicode\t15\t0\t0\n");
+    VERSION(0, 0, 0, "unicode\t0\t0\t0\n");
+    VERSION(9, 10, 3267, "unicode\t9\t10\t3267\n");
+    VERSION(65535, 0, 0, "unicode\t65535\t0\t0\n");
+    VERSION(0, 65535, 0, "unicode\t0\t65535\t0\n");
+    VERSION(0, 0, 65535, "unicode\t0\t0\t65535\n");
+    VERSION(65535, 65535, 65535, "unicode\t65535\t65535\t65535\n");
+
+    /* 9, before 3 and 7 */
+    fill_file();
+    answer("65536 in the first place", WRITE(65536, 0, 0, 192), LOVEMUDARN_BAD_LINE, 0, 0);
+    answer("65536 in the second", WRITE(0, 65536, 0, 192), LOVEMUDARN_BAD_LINE, 0, 0);
+    answer("65536 in the third", WRITE(0, 0, 65536, 192), LOVEMUDARN_BAD_LINE, 0, 0);
+    answer("the largest number", WRITE(15, 0xFFFFFFFF, 0, 192), LOVEMUDARN_BAD_LINE, 0, 0);
+    answer("no number is cut", WRITE(15, 0, 0x10001, 192), LOVEMUDARN_BAD_LINE, 0, 0);
+    answer("9 before 7", WRITE(65536, 65536, 65536, 0), LOVEMUDARN_BAD_LINE, 0, 0);
+    answer("9 before 3", lovemudarn_write_lists(0, 65536, 0, LIST(low), NONE, NONE, file_out, 192), LOVEMUDARN_BAD_LINE, 0, 0);
+    file_holds("no version", TEXT(""));
+
+    /* 3, before 7 */
+    no_file("below 0x80", LIST(low), NONE, NONE, LOVEMUDARN_LIST_STARTS, 0);
+    no_file("a half pair", NONE, LIST(half), NONE, LOVEMUDARN_LIST_CONTINUES, 1);
+    no_file("not above", NONE, NONE, LIST(meeting), LOVEMUDARN_LIST_EMOJI, 1);
+    no_file("a surrogate", LIST(surrogate), NONE, NONE, LOVEMUDARN_LIST_STARTS, 1);
+    no_file("lists in order", NONE, LIST(half), LIST(meeting), LOVEMUDARN_LIST_CONTINUES, 1);
+
+    /* there and back: what is written is read, and what is read is written */
+    fill_lists();
+    answer("there", lovemudarn_write_lists(65535, 7, 0, SMALL_LISTS, file_out, 192), LOVEMUDARN_DONE, bytes + 3, 0);
+    lists("and back", reads(file_out, bytes + 3, 8, 8, 8), LOVEMUDARN_DONE, 0, 0, 65535, 7, 0, 4, 6, 2);
+    lists_hold("there and back", SMALL_LISTS);
+    fill_file();
+    fill_lists();
+    struct lovemudarn_lists_answer read = reads(TEXT(SMALL), 8, 8, 8);
+    answer("back, and there",
+           lovemudarn_write_lists(read.major, read.minor, read.update, run_starts, read.starts, run_continues, read.continues, run_emoji, read.emoji, file_out,
+                                  192),
+           LOVEMUDARN_DONE, bytes, 0);
+    file_holds("back, and there", TEXT(SMALL));
+}
+
+/* Files with the most pairs, and with one more, made here from the pairs of `many`, whose numbers have five digits. */
+static uint8_t long_file[64 + 3 * 23 * (LOVEMUDARN_MAX_PAIRS + 1)], long_out[sizeof long_file];
+static uint32_t long_runs[3][2 * LOVEMUDARN_MAX_PAIRS + 2];
+
+static size_t put_text(size_t at, const char *s) {
+    while (*s) long_file[at++] = (uint8_t)*s++;
+    return at;
+}
+
+static size_t put_pairs(size_t at, const char *name, size_t pairs) {
+    for (size_t i = 0; i < 2 * pairs; i += 1) {
+        at = put_text(at, i % 2 == 0 ? name : "");
+        long_file[at++] = 9;
+        for (int digit = 16; digit >= 0; digit -= 4) long_file[at++] = (uint8_t)"0123456789abcdef"[many[i] >> digit & 15];
+        at = put_text(at, i % 2 == 0 ? "" : "\n");
+    }
+    return at;
+}
+
+#define READ_LONG(len, room) lovemudarn_read_lists(long_file, len, long_runs[0], room, long_runs[1], room, long_runs[2], room)
+
+static void test_long_lists(void) {
+    static const char *const names[3] = {"start", "continue", "emoji"};
+    const size_t pairs = LOVEMUDARN_MAX_PAIRS, most = 2 * pairs;
+    for (uint32_t i = 0; i < most + 2; i += 1) many[i] = 0x10000 + i;
+    size_t len = put_text(0, FIRST_LINE);
+    for (size_t list = 0; list < 3; list += 1) len = put_pairs(len, names[list], pairs);
+    same("the most pairs", "the bytes of the file", len, 15 + pairs * (18 + 21 + 18));
+    answer("the most pairs", lovemudarn_write_lists(15, 0, 0, many, most, many, most, many, most, long_out, sizeof long_out), LOVEMUDARN_DONE, len, 0);
+    size_t other = 0;
+    for (size_t i = 0; i < len; i += 1) other += long_out[i] != long_file[i];
+    same("the most pairs", "bytes of the file that are others", other, 0);
+    answer("the most pairs, one byte short", lovemudarn_write_lists(15, 0, 0, many, most, many, most, many, most, long_out, len - 1),
+           LOVEMUDARN_SHORT_BUFFER, len, 0);
+    no_lists("the most pairs, two numbers short", READ_LONG(len, most - 2), LOVEMUDARN_SHORT_BUFFER, LOVEMUDARN_LIST_STARTS, most);
+    lists("the most pairs", READ_LONG(len, most), LOVEMUDARN_DONE, 0, 0, 15, 0, 0, most, most, most);
+    other = 0;
+    for (size_t i = 0; i < 3 * most; i += 1) other += long_runs[i / most][i % most] != many[i % most];
+    same("the most pairs", "numbers of the lists that are others", other, 0);
+
+    /* one pair more: the count comes before a bad pair, and both before too little room */
+    for (size_t bad = 0; bad < 2; bad += 1) {
+        if (bad) many[0] = 0xFFFFF;
+        for (size_t list = 0; list < 3; list += 1) {
+            len = put_text(0, FIRST_LINE);
+            for (size_t i = 0; i < list; i += 1) len = put_text(put_text(len, names[i]), "\te9\te9\n");
+            len = put_pairs(len, names[list], pairs + 1);
+            no_lists("one pair more", READ_LONG(len, most + 2), LOVEMUDARN_BAD_LIST, list, pairs);
+            no_lists("one pair more, no room", READ_LONG(len, 0), LOVEMUDARN_BAD_LIST, list, pairs);
+        }
+        answer("one pair more", lovemudarn_write_lists(15, 0, 0, LIST(many), NONE, NONE, long_out, sizeof long_out), LOVEMUDARN_BAD_LIST,
+               LOVEMUDARN_LIST_STARTS, pairs);
+        answer("one pair more", lovemudarn_write_lists(15, 0, 0, NONE, LIST(many), NONE, long_out, 0), LOVEMUDARN_BAD_LIST, LOVEMUDARN_LIST_CONTINUES,
+               pairs);
+        answer("one pair more", lovemudarn_write_lists(15, 0, 0, NONE, NONE, LIST(many), long_out, sizeof long_out), LOVEMUDARN_BAD_LIST,
+               LOVEMUDARN_LIST_EMOJI, pairs);
+    }
+    len = put_pairs(put_text(0, FIRST_LINE), names[1], pairs);
+    no_lists("the most pairs, the first bad", READ_LONG(len, most), LOVEMUDARN_BAD_LIST, LOVEMUDARN_LIST_CONTINUES, 0);
+}
+
 /* A text that is one byte too long. Its first byte is ill-formed: 1 comes before 2, and no other byte is read, nor could be: there is no memory after
  * the first page. */
 static void test_too_long(void) {
@@ -630,6 +964,9 @@ int main(void) {
     test_guarded();
     test_not_utf8();
     test_classes();
+    test_read_lists();
+    test_write_lists();
+    test_long_lists();
     printf("%lu checks, %lu failed\n", checks, failed);
     return failed != 0;
 }

@@ -1,4 +1,5 @@
-//! Every refusal, its place, the order of the checks, and that a refusal writes nothing.
+//! Every refusal, its place, the order of the checks, and that a refusal writes nothing. tests/lists_file.rs has
+//! those of the file of lists.
 
 mod common;
 
