@@ -1,7 +1,8 @@
-// An example for those who call the crates from Rattle: the key of a text, the tokens of a text, and a refusal explained.
+// An example for those who call the crates from Rattle: the key of a text, with empty lists and with those of a file, the tokens of a text, and a refusal explained.
 // No call asks anything of its caller: what has to be proved here is only that a part of an array lies within it, and that a loop ends.
 use key::KeyAnswer;
 use libc::STDOUT_FILENO;
+use lists_in::ReadAnswer;
 use plan::ListAnswer;
 use refusal::Numbers;
 use token::Token;
@@ -37,16 +38,45 @@ fn explain(n: Numbers) {
     }
 }
 
-// The key of a text, with empty lists.
-fn say_key(text: &[u8]) {
-    let none = [0u32; 0];
+// The key of a text, with lent lists.
+fn say_key_by(text: &[u8], starts: &[u32], continues: &[u32], emoji: &[u32]) {
     let mut out = [0u8; 64];
-    let answer = key::key(text, &none, &none, &none, &mut out);
+    let answer = key::key(text, starts, continues, emoji, &mut out);
     let KeyAnswer::Keyed(n) = answer else {
         explain(key::key_numbers(answer));
         return;
     };
     say(&out[..n]);
+}
+
+// The key of a text, with empty lists.
+fn say_key(text: &[u8]) {
+    let none = [0u32; 0];
+    say_key_by(text, &none, &none, &none);
+}
+
+fn say_refused_lists(n: Numbers) {
+    say(b"lists refused with number ");
+    io::print_decimal(STDOUT_FILENO, n.number as u64);
+    say(b", line ");
+    io::print_decimal(STDOUT_FILENO, n.beside as u64);
+    say(b"\n");
+}
+
+// The key of a text, with the lists of a file.
+fn say_key_with(file: &[u8], text: &[u8]) {
+    let mut starts = [0u32; 8];
+    let mut continues = [0u32; 8];
+    let mut emoji = [0u32; 8];
+    let read = lists_in::read_lists(file, &mut starts, &mut continues, &mut emoji);
+    let ReadAnswer::Loaded(held) = read else {
+        say_refused_lists(lists_in::read_numbers(read));
+        return;
+    };
+    let a = held.starts;
+    let b = held.continues;
+    let c = held.emoji;
+    say_key_by(text, &starts[..a], &continues[..b], &emoji[..c]);
 }
 
 fn blank() -> Token {
@@ -89,4 +119,9 @@ fn main() {
     say_tokens(b"a+1");
     say_key(b"x = '/**/'");
     say_key(b"x = \xE2\x82");
+    say_key_with(
+        b"unicode\t15\t0\t0\nstart\tef\tef\ncontinue\tef\tef\n",
+        b"na\xC3\xAFve = '\xC3\xAF; // b\n",
+    );
+    say_key_with(b"unicode\t15\t0\t0\nstart\tEF\tef\n", b"a");
 }

@@ -5,3 +5,4 @@ pub mod Surveying
 pub mod Filling
 pub mod Calls
 pub mod Answers
+pub mod Fits

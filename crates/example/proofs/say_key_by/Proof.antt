@@ -1,20 +1,11 @@
--- `example::say_key` meets its contract. A key that was written fits into the buffer (`key/proofs/Fits`).
+-- `example::say_key_by` meets its contract. A key that was written fits into the buffer (`key/proofs/Fits`).
 use Rattle.key.proofs.Fits.{key-fits, key-part}
 use borrow.Author.Needs.{needs}
-use Rattle.example.proofs.say_key.Statement.{statement}
-use Rattle.example.proofs.say_key.Tie as tie
+use Rattle.example.proofs.say_key_by.Statement.{statement}
+use Rattle.example.proofs.say_key_by.Tie as tie
 
 slice-aggregate-key : tie.Need-slice-aggregate-key
 slice-aggregate-key c = search needs
-
-slice-aggregate-key-2 : tie.Need-slice-aggregate-key-2
-slice-aggregate-key-2 c = search needs
-
-slice-aggregate-key-3 : tie.Need-slice-aggregate-key-3
-slice-aggregate-key-3 c = search needs
-
-slice-aggregate-key-4 : tie.Need-slice-aggregate-key-4
-slice-aggregate-key-4 c = search needs
 
 key-requires : tie.Need-key-requires
 key-requires c κs = search needs
@@ -43,14 +34,11 @@ say-requires c κs = search needs
 returns-2 : tie.Need-returns-2
 returns-2 c = search needs
 
-pub say-key-spec : {M : Type 1} → statement M
-say-key-spec =
+pub say-key-by-spec : {M : Type 1} → statement M
+say-key-by-spec =
     tie.close
     (tie.spec
     slice-aggregate-key
-    slice-aggregate-key-2
-    slice-aggregate-key-3
-    slice-aggregate-key-4
     key-requires
     enum-known-answer
     key-numbers-requires
