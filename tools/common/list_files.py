@@ -460,6 +460,12 @@ def write(maker):
 # ---- the files ----
 
 
+def begun(counts):
+    """How many answers of the reader and of the writer begin with each number, 0 or a refusal's."""
+    said = ", ".join(f"{count} {operation} {number}" for (operation, number), count in sorted(counts.items()))
+    return f"files of lists: answers that begin {said}"
+
+
 def make(real_files):
     """Name and sections of each file; what is given are the files of Unicode's lists."""
     check_by_hand()
@@ -473,6 +479,5 @@ def make(real_files):
         "file-write.vec": write(maker),
     }
     files.update(counted(maker))
-    said = ", ".join(f"{count} {operation} {number}" for (operation, number), count in sorted(maker.counts.items()))
-    print(f"files of lists: answers that begin {said}; {len(maker.loaded)} files stand for as many lists", file=sys.stderr)
+    print(f"{begun(maker.counts)}; {len(maker.loaded)} files stand for as many lists", file=sys.stderr)
     return files

@@ -2,6 +2,7 @@
 // No call asks anything of its caller: what has to be proved here is only that a part of an array lies within it, and that a loop ends.
 use key::KeyAnswer;
 use libc::STDOUT_FILENO;
+use lists_file::Version;
 use lists_in::ReadAnswer;
 use plan::ListAnswer;
 use refusal::Numbers;
@@ -63,6 +64,16 @@ fn say_refused_lists(n: Numbers) {
     say(b"\n");
 }
 
+fn say_version(version: Version) {
+    say(b"lists of Unicode ");
+    io::print_decimal(STDOUT_FILENO, version.major as u64);
+    say(b".");
+    io::print_decimal(STDOUT_FILENO, version.minor as u64);
+    say(b".");
+    io::print_decimal(STDOUT_FILENO, version.update as u64);
+    say(b"\n");
+}
+
 // The key of a text, with the lists of a file.
 fn say_key_with(file: &[u8], text: &[u8]) {
     let mut starts = [0u32; 8];
@@ -73,6 +84,8 @@ fn say_key_with(file: &[u8], text: &[u8]) {
         say_refused_lists(lists_in::read_numbers(read));
         return;
     };
+    let version = held.version;
+    say_version(version);
     let a = held.starts;
     let b = held.continues;
     let c = held.emoji;

@@ -28,6 +28,9 @@ say-refused-lists-requires c κs = search needs
 returns : tie.Need-returns
 returns c = search needs
 
+say-version-requires : tie.Need-say-version-requires
+say-version-requires c κs = search needs
+
 array-share-prefix-starts : tie.Need-array-share-prefix-starts
 array-share-prefix-starts c = search starts-fit
 
@@ -64,6 +67,7 @@ say-key-with-spec =
     read-numbers-requires
     say-refused-lists-requires
     returns
+    say-version-requires
     array-share-prefix-starts
     slice-aggregate-say-key-by
     array-share-prefix-continues
