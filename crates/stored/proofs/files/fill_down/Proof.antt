@@ -6,7 +6,6 @@ use native.Mathlib.Omega.{arith}
 use borrow.Author.Needs.{needs}
 use Rattle.stored.proofs.files.fill_down.Statement.{statement}
 use Rattle.stored.proofs.files.fill_down.Tie as tie
-use Rattle.std.proofs.num.wrapping_sub_u32.Reads as wrapping-sub-u32-reads
 
 abbrev Inv-loop : tie.InvT-loop
 Inv-loop run₀ n₀ i₀ run n i = length run ≡ length run₀
