@@ -2,10 +2,10 @@
 ghost use Prim.Native.Nat.{_≤_};
 ghost use mathlib.Core.Path.{_≡_};
 ghost use lib.ListN.{length};
+use crate::keys::put_lent;
 use lists_file::Version;
 use lists_in::Held;
 use lists_in::ReadAnswer;
-use lists_out::WriteAnswer;
 
 // The most numbers of a run that is lent. Only the length is promised, so that no proof unfolds the zeros.
 fn run_room() -> [u32; 20000]
@@ -149,17 +149,6 @@ fn filled(byte: u8) -> [u8; 262000]
     [byte; 262000]
 }
 
-// Puts the three numbers of an answer, and after them the bytes that were lent.
-fn put_written(out: &mut [u8], answer: WriteAnswer, held: &[u8]) -> usize
-    ensures { λ r. ⌜ r ≤ length (now (out .exit)) ⌝ }
-{
-    let n = vectors::put_numbers(out, lists_out::write_numbers(answer));
-    if out.len() - n < held.len() {
-        return 0;
-    }
-    puts::put_bytes(out, n, held)
-}
-
 // The call over a buffer, and then what it answers and what the buffer holds.
 fn write_over(
     version: Version,
@@ -172,7 +161,7 @@ fn write_over(
     ensures { λ r. ⌜ r ≤ length (now (out .exit)) ⌝ }
 {
     let answer = lists_out::write_lists(version, starts, continues, emoji, buffer);
-    put_written(out, answer, buffer)
+    put_lent(out, lists_out::write_numbers(answer), buffer)
 }
 
 // The low 16 bits of a number.

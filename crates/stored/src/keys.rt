@@ -2,7 +2,7 @@
 ghost use Prim.Native.Nat.{_≤_};
 ghost use mathlib.Core.Path.{_≡_};
 ghost use lib.ListN.{length};
-use key::KeyAnswer;
+use refusal::Numbers;
 
 // A byte 4,096 times.
 fn filled(byte: u8) -> [u8; 4096]
@@ -12,10 +12,10 @@ fn filled(byte: u8) -> [u8; 4096]
 }
 
 // Puts the three numbers of an answer, and after them the bytes that were lent.
-fn put_keyed(out: &mut [u8], answer: KeyAnswer, held: &[u8]) -> usize
+pub fn put_lent(out: &mut [u8], numbers: Numbers, held: &[u8]) -> usize
     ensures { λ r. ⌜ r ≤ length (now (out .exit)) ⌝ }
 {
-    let n = vectors::put_numbers(out, key::key_numbers(answer));
+    let n = vectors::put_numbers(out, numbers);
     if out.len() - n < held.len() {
         return 0;
     }
@@ -34,7 +34,7 @@ fn key_over(
     ensures { λ r. ⌜ r ≤ length (now (out .exit)) ⌝ }
 {
     let answer = key::key(text, starts, continues, emoji, buffer);
-    put_keyed(out, answer, buffer)
+    put_lent(out, key::key_numbers(answer), buffer)
 }
 
 // Operation 17: the key call over n bytes, each of which held the same one before.
