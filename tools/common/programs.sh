@@ -20,7 +20,7 @@ blanks=$(printf ' \t\r\013\014')
 # a byte order mark, and the blanks past ASCII: U+0085, U+200E, U+200F, U+2028, U+2029
 far_blanks=$(printf '\357\273\277 \302\205 \342\200\216 \342\200\217 \342\200\250 \342\200\251')
 limit=65536
-first_run='about 5 to 10 minutes'
+first_run='about 4 to 10 minutes'
 me='' lock=$state/lock building='' part=''
 case ${LC_ALL:-${LC_CTYPE:-${LANG:-}}} in *[Uu][Tt][Ff]-8* | *[Uu][Tt][Ff]8*) utf8=1 ;; *) utf8=0 ;; esac
 
