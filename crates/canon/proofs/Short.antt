@@ -22,12 +22,12 @@ gap-short (gap ∷ m) n h = omega arith
 gap-short (meant k b ∷ m) n h = omega arith
 
 -- a token has at least one byte, and in the key no more than in the text
-items-short : (s : List ℕ) (start : ℕ) (ts : List Piece) → Row start (placed start ts) → length (written (itemsOf s (placed start ts))) ≤ size (texts ts)
+items-short : (s : List ℕ) (start : ℕ) (ts : List Piece) → Row start (placed s start ts) → length (written (itemsOf s (placed s start ts))) ≤ size (texts ts)
 items-short s start [] r = omega arith
 items-short s start (t ∷ ts) (next e h r) = go (isTrivia (t .kind)) (items-short s (start + size (t .text)) ts r)
   where
     later : List Item
-    later = itemsOf s (placed (start + size (t .text)) ts)
+    later = itemsOf s (placed s (start + size (t .text)) ts)
 
     own : List ℕ
     own = take (size (t .text)) (drop start s)

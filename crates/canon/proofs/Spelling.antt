@@ -31,10 +31,10 @@ abbrev pub coded : List Piece → List Said
 coded [] = []
 coded (t ∷ ts) = record { kind = t .kind; bytes = encode (t .text) } ∷ coded ts
 
--- tokens in their places: after the bytes p, and before any others
-said-placed : (ts : List Piece) (p r : List ℕ) → saidOf (p ++ (encode (texts ts) ++ r)) (placed (length p) ts) ≡ coded ts
-said-placed [] p r = refl
-said-placed (t ∷ ts) p r =
+-- tokens in their places: after the bytes p, and before any others. Their lines, those of any text z, say nothing
+said-placed : (z : List ℕ) (ts : List Piece) (p r : List ℕ) → saidOf (p ++ (encode (texts ts) ++ r)) (placed z (length p) ts) ≡ coded ts
+said-placed z [] p r = refl
+said-placed z (t ∷ ts) p r =
     let u : List ℕ = t .text in
     let n : size u ≡ length (encode u) = sym (length-encode u) in
     let j : encode (u ++ texts ts) ++ r ≡ encode u ++ (encode (texts ts) ++ r) = ap (λ (l : List ℕ). l ++ r) (encode-append u (texts ts)) ∙ append-assoc (encode u) (encode (texts ts)) r in
@@ -42,8 +42,8 @@ said-placed (t ∷ ts) p r =
     let m : length p + length (encode u) ≡ length (p ++ encode u) = sym (length-append p (encode u)) in
     let here : take (length (encode u)) (drop (length p) (p ++ (encode u ++ (encode (texts ts) ++ r)))) ≡ encode u =
     ap (take (length (encode u))) (drop-append-seam p (encode u ++ (encode (texts ts) ++ r))) ∙ take-append-seam (encode u) (encode (texts ts) ++ r) in
-    let there : saidOf (p ++ (encode u ++ (encode (texts ts) ++ r))) (placed (length p + length (encode u)) ts) ≡ coded ts =
-    rw (k, m) (said-placed ts (p ++ encode u) r) in
+    let there : saidOf (p ++ (encode u ++ (encode (texts ts) ++ r))) (placed z (length p + length (encode u)) ts) ≡ coded ts =
+    rw (k, m) (said-placed z ts (p ++ encode u) r) in
     rw (j, n, here, there)
 
 -- THE RECORDS OF A TEXT say what its tokens say, encoded: also where the text is ill-formed after them
@@ -51,7 +51,7 @@ pub said-records : (L : Lists) (on : Bool) (s : List ℕ) → saidOf s (records 
 said-records L on s =
     let ts : List Piece = tokens L on (chars s) in
     let e : encode (texts ts) ++ drop (size (chars s)) s ≡ s = ap (λ (l : List ℕ). encode l ++ drop (size (chars s)) s) (cover L on (chars s)) ∙ front s in
-    subst (λ (z : List ℕ). saidOf z (placed 0 ts) ≡ coded ts) e (said-placed ts [] (drop (size (chars s)) s))
+    subst (λ (z : List ℕ). saidOf z (placed s 0 ts) ≡ coded ts) e (said-placed s ts [] (drop (size (chars s)) s))
 
 -- the items of what tokens say
 abbrev pub itemsSaid : List Said → List Item

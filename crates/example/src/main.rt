@@ -97,10 +97,11 @@ fn blank() -> Token {
         kind: TokenKind::Eof,
         len: 0,
         start: 0,
+        line: 0,
     }
 }
 
-// The tokens of a text of at most 64: a line each, with the number of its kind, its length and its start.
+// The tokens of a text of at most 64: a line each, with the number of its kind, its length, its start and its line.
 fn say_tokens(text: &[u8]) {
     let none = [0u32; 0];
     let records = list::tokenize_64(text, &none, &none, &none, false, blank());
@@ -122,6 +123,8 @@ fn say_tokens(text: &[u8]) {
         io::print_decimal(STDOUT_FILENO, token.len as u64);
         say(b" ");
         io::print_decimal(STDOUT_FILENO, token.start as u64);
+        say(b" ");
+        io::print_decimal(STDOUT_FILENO, token.line as u64);
         say(b"\n");
         i += 1;
     }
@@ -129,7 +132,7 @@ fn say_tokens(text: &[u8]) {
 
 fn main() {
     say_key(b"/* a */x = 1; // b\n");
-    say_tokens(b"a+1");
+    say_tokens(b"a\n+1");
     say_key(b"x = '/**/'");
     say_key(b"x = \xE2\x82");
     say_key_with(

@@ -7,6 +7,7 @@ use lib.ListN.{length}
 use Rattle.token.specs.Lists.{Lists}
 use Rattle.token.specs.Tokens.{records}
 use Rattle.plan.specs.Answers.{listAnswer, listNumbers}
+use Rattle.slots.specs.Numbers.{width}
 use Rattle.slots.specs.Answers as slots
 use Rattle.canon.specs.Key.{keyOf}
 use Rattle.key.specs.Answers as key
@@ -15,8 +16,8 @@ use Rattle.exports.specs.declared.Answer.{Answer}
 use Rattle.exports.specs.Answers.{answerOf}
 
 pub record TokensOut (limit : ℕ) (s : List ℕ) (L : Lists) (on : Bool) (before after : List ℕ) (r : Answer) : Type 0 where
-  pub answer : r ≡ answerOf (listNumbers (listAnswer limit s L on (length before / 4)))
-  pub holds : after ≡ slots.slotsAfter (listAnswer limit s L on (length before / 4)) (records L on s) before
+  pub answer : r ≡ answerOf (listNumbers (listAnswer limit s L on (length before / width)))
+  pub holds : after ≡ slots.slotsAfter (listAnswer limit s L on (length before / width)) (records L on s) before
 
 pub record KeyOut (limit : ℕ) (s : List ℕ) (L : Lists) (before after : List ℕ) (r : Answer) : Type 0 where
   pub answer : r ≡ answerOf (keyNumbers (keyAnswer limit s L (length before)))

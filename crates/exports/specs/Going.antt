@@ -7,6 +7,7 @@ use lib.ListN.{length}
 use Rattle.text.specs.Position.{onBoundary}
 use Rattle.token.specs.Lists.{Lists}
 use Rattle.lexer.specs.Checked.{Checked}
+use Rattle.slots.specs.Numbers.{width}
 use Rattle.exports.specs.declared.RunAnswer.{RunAnswer}
 use Rattle.exports.specs.Runs.{firstTokens, ranOver, written}
 
@@ -15,7 +16,7 @@ pub record Going (L : Lists) (s : List ℕ) (at : ℕ) : Type 0 where
   pub checked : Checked s L
   pub edged : onBoundary s at ≡ true
 
--- the tokens that there are slots for, four numbers being a slot, are written, and the answer tells of them
+-- the tokens that there are slots for, `width` numbers being a slot, are written, and the answer tells of them
 pub record RunPut (L : Lists) (s : List ℕ) (at : ℕ) (on : Bool) (before after : List ℕ) (r : RunAnswer) : Type 0 where
-  pub answer : r ≡ ranOver L s at on (firstTokens L s at on (length before / 4))
-  pub holds : after ≡ written (firstTokens L s at on (length before / 4)) before
+  pub answer : r ≡ ranOver L s at on (firstTokens L s at on (length before / width))
+  pub holds : after ≡ written (firstTokens L s at on (length before / width)) before

@@ -15,7 +15,7 @@ use Rattle.lexer.specs.declared.Scan.{Scan}
 use Rattle.lexer.specs.Scans.{recordsFrom}
 use Rattle.lexer.specs.Steps.{beforeOf, nextOf}
 use Rattle.lexer.specs.Answers.{tokenVerdict}
-use Rattle.slots.specs.Numbers.{numbersOf}
+use Rattle.slots.specs.Numbers.{width, numbersOf}
 use Rattle.exports.specs.declared.RunAnswer.{RunAnswer}
 
 -- the tokens: the first of those from the position on
@@ -37,17 +37,17 @@ noRun n = record { number = n .number; beside = n .beside; second = n .second; t
 
 -- tokens from a position on are given
 abbrev pub ranOver : Lists → (s : List ℕ) (at : ℕ) (on : Bool) → List Token → RunAnswer
-ranOver L s at on ts = ranOut (length ts) (stepped L s (length ts) (beforeOf at on))
+ranOver L s at on ts = ranOut (length ts) (stepped L s (length ts) (beforeOf s at on))
 
 -- a run with the numbers of tokens, and past them what was there
 abbrev pub written : List Token → (before : List ℕ) → List ℕ
-written ts before = numbersOf ts ++ drop (4 * length ts) before
+written ts before = numbersOf ts ++ drop (width * length ts) before
 
 -- 1, 3, 2 and 4 as the one-token call has them, else what is done
 abbrev pub atBoundary : {A : Type 0} → (limit : ℕ) (s : List ℕ) → Lists → (at : ℕ) (refused : Numbers → A) (done : A) → A
 atBoundary limit s L at refused done = refusedOr (λ bad. refused (badNumbers bad)) (tokenVerdict limit s L) (pick (onBoundary s at) done (refused (numbers 4 at 0)))
 
--- THE PROMISE of the call, four numbers being a slot: the answer, and the run from before to after. A refusal changes nothing.
+-- THE PROMISE of the call, `width` numbers being a slot: the answer, and the run from before to after. A refusal changes nothing.
 pub record RunOut (limit : ℕ) (s : List ℕ) (L : Lists) (at : ℕ) (on : Bool) (before after : List ℕ) (r : RunAnswer) : Type 0 where
-  pub answer : r ≡ atBoundary limit s L at noRun (ranOver L s at on (firstTokens L s at on (length before / 4)))
-  pub holds : after ≡ atBoundary limit s L at (λ n. before) (written (firstTokens L s at on (length before / 4)) before)
+  pub answer : r ≡ atBoundary limit s L at noRun (ranOver L s at on (firstTokens L s at on (length before / width)))
+  pub holds : after ≡ atBoundary limit s L at (λ n. before) (written (firstTokens L s at on (length before / width)) before)

@@ -9,7 +9,7 @@ use Rattle.lexer.specs.Answers.{tokenNumbers}
 use Rattle.exports.specs.declared.TokenAnswer.{TokenAnswer}
 
 abbrev pub noToken : Numbers → TokenAnswer
-noToken n = record { number = n .number; beside = n .beside; second = n .second; kind = 0; «suffix_start» = 0; len = 0; start = 0; next = 0; on = false }
+noToken n = record { number = n .number; beside = n .beside; second = n .second; kind = 0; «suffix_start» = 0; len = 0; start = 0; line = 0; next = 0; on = false }
 
 abbrev pub givenOut : Numbers → Scan → TokenAnswer
 givenOut n x = record {
@@ -20,6 +20,7 @@ givenOut n x = record {
   «suffix_start» = suffixOf (x .token .kind);
   len = x .token .len;
   start = x .token .start;
+  line = x .token .line;
   next = x .next;
   on = x .on;
 }

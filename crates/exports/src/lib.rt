@@ -54,6 +54,7 @@ pub struct TokenAnswer {
     pub suffix_start: u32,
     pub len: u32,
     pub start: usize,
+    pub line: u32,
     pub next: usize,
     pub on: bool,
 }
@@ -135,6 +136,7 @@ fn no_token(n: Numbers) -> TokenAnswer
         suffix_start: 0,
         len: 0,
         start: 0,
+        line: 0,
         next: 0,
         on: false,
     }
@@ -154,6 +156,7 @@ fn given_out(n: Numbers, scan: Scan) -> TokenAnswer
         suffix_start: kinds::suffix_of(kind),
         len: token.len,
         start: token.start,
+        line: token.line,
         next: scan.next,
         on: scan.on,
     }
@@ -213,19 +216,19 @@ fn put_run(
     requires { ⌜ Going (lent (now starts) (now continues) (now emoji)) (now text) at ⌝ }
     ensures { λ r. ⌜ RunPut (lent (now (starts .entry)) (now (continues .entry)) (now (emoji .entry))) (now (text .entry)) at on (now (slots .entry)) (now (slots .exit)) r ⌝ }
 {
-    let mut left = slots.len() / 4;
+    let mut left = slots.len() / slots::WIDTH;
     let mut used: usize = 0;
-    let mut scan = lexer::before(at, on);
+    let mut scan = lexer::before(text, at, on);
     while 0 < left {
         if text.len() <= scan.next {
-            return ran_out(used / 4, scan);
+            return ran_out(used / slots::WIDTH, scan);
         }
         scan = lexer::step(text, starts, continues, emoji, scan);
         let token = scan.token;
         used = slots::put_token(slots, used, token);
         left = left - 1;
     }
-    ran_out(used / 4, scan)
+    ran_out(used / slots::WIDTH, scan)
 }
 
 // The three numbers, and those of a case of the raw check.
@@ -444,7 +447,7 @@ pub extern "C" fn lovemudarn_token(
     token_out(lexer::advance_token(text, starts, continues, emoji, at, on))
 }
 
-// The tokens of a text, four numbers each: 1, 3, 2, 5 with the tokens needed, or 0 with the number of tokens. Only 0 writes.
+// The tokens of a text, five numbers each: 1, 3, 2, 5 with the tokens needed, or 0 with the number of tokens. Only 0 writes.
 #[no_mangle]
 pub extern "C" fn lovemudarn_tokens(
     text: &[u8],
@@ -460,7 +463,7 @@ pub extern "C" fn lovemudarn_tokens(
     answer_of(plan::list_numbers(answer))
 }
 
-// The tokens from a position on, four numbers each, as many as the run has slots for: 1, 3, 2, 4, or 0 with how many, the position past them and whether
+// The tokens from a position on, five numbers each, as many as the run has slots for: 1, 3, 2, 4, or 0 with how many, the position past them and whether
 // frontmatter is on there, from which the next call goes on. Only 0 writes.
 #[no_mangle]
 pub extern "C" fn lovemudarn_tokens_from(

@@ -74,9 +74,7 @@ fn measure(text: &[u8], starts: &[u32], continues: &[u32], emoji: &[u32]) -> Nee
     let mut at: usize = 0;
     let mut gap = false;
     while at < text.len() {
-        let here = lexer::before(at, false);
-        let scan = lexer::step(text, starts, continues, emoji, here);
-        let token = scan.token;
+        let token = lexer::bare(text, starts, continues, emoji, at, false);
         let kind = token.kind;
         if kinds::is_broken(kind) {
             return Need::Mending(at);
@@ -84,7 +82,7 @@ fn measure(text: &[u8], starts: &[u32], continues: &[u32], emoji: &[u32]) -> Nee
         let trivia = kinds::is_trivia(kind);
         used = used + piece_bytes(trivia, gap, token.len as usize);
         gap = trivia;
-        at = scan.next;
+        at = token.next;
     }
     Need::Bytes(used)
 }
@@ -120,14 +118,12 @@ fn write(text: &[u8], starts: &[u32], continues: &[u32], emoji: &[u32], out: &mu
     let mut at: usize = 0;
     let mut gap = false;
     while at < text.len() {
-        let here = lexer::before(at, false);
-        let scan = lexer::step(text, starts, continues, emoji, here);
-        let token = scan.token;
+        let token = lexer::bare(text, starts, continues, emoji, at, false);
         let kind = token.kind;
         let trivia = kinds::is_trivia(kind);
-        used = put_piece(text, at, scan.next, trivia, gap, out, used);
+        used = put_piece(text, at, token.next, trivia, gap, out, used);
         gap = trivia;
-        at = scan.next;
+        at = token.next;
     }
 }
 

@@ -2,19 +2,24 @@
 use Prim.Native.Nat.{ℕ, zero, suc}
 use mathlib.Core.Bool.{Bool}
 use mathlib.Core.List.{List, [], _∷_}
+use Rattle.line_feeds.specs.Feeds.{lineAt}
 use Rattle.token.specs.declared.Token.{Token}
 use Rattle.token.specs.declared.TokenKind.the-variants.{Eof}
 use Rattle.token.specs.Lists.{Lists}
 use Rattle.lexer.specs.declared.Scan.{Scan}
 use Rattle.lexer.specs.Scans.{scanAt, recordsFrom}
 
--- before the token at a position: in its place Eof, of no length
-abbrev pub beforeOf : (at : ℕ) (on : Bool) → Scan
-beforeOf at on = record { token = record { kind = Eof; len = 0; start = at }; next = at; on = on }
+-- before the token at a position in a line: in its place Eof, of no length
+abbrev pub beforeIn : (at line : ℕ) (on : Bool) → Scan
+beforeIn at line on = record { token = record { kind = Eof; len = 0; start = at; line = line }; next = at; on = on }
+
+-- before the token at a position of a text
+abbrev pub beforeOf : (s : List ℕ) (at : ℕ) (on : Bool) → Scan
+beforeOf s at on = beforeIn at (lineAt s at) on
 
 -- before the first token
 abbrev pub startOf : (on : Bool) → Scan
-startOf on = beforeOf 0 on
+startOf on = beforeIn 0 0 on
 
 -- the scan past a scan
 abbrev pub nextOf : Lists → (s : List ℕ) → Scan → Scan

@@ -1,11 +1,14 @@
 // The public call for one token, with its refusals, and the step for loops over a text that was checked once.
 ghost use mathlib.Core.Path.{_≡_};
 ghost use Prim.Native.Nat.{_≤_};
+ghost use lib.ListN.{length};
+ghost use Rattle.line_feeds.specs.Feeds.{lineAt};
 ghost use Rattle.token.specs.Lists.{lent};
 ghost use Rattle.cursor.specs.Ran.{kindFrom};
-ghost use Rattle.lexer.specs.Scans.{Narrow};
+ghost use Rattle.lexer.specs.Scans.{Narrow, bareAt};
 ghost use Rattle.lexer.specs.Checked.{Checked};
-ghost use Rattle.lexer.specs.Steps.{beforeOf, startOf, nextOf};
+ghost use Rattle.lexer.specs.Steps.{beforeIn, beforeOf, startOf, nextOf};
+ghost use Rattle.lexer.specs.Ready.{Lined, Ready};
 ghost use Rattle.lexer.specs.Answers.{tokenVerdict, oneToken, tokenNumbers};
 use cursor::Cursor;
 use cursor::Kinded;
@@ -19,6 +22,14 @@ use token::TokenKind;
 // A token, the position past it, and whether frontmatter is on there: the whole state of a loop over a text.
 pub struct Scan {
     pub token: Token,
+    pub next: usize,
+    pub on: bool,
+}
+
+// A token without its place, the position past it, and whether frontmatter is on there.
+pub struct Bare {
+    pub kind: TokenKind,
+    pub len: u32,
     pub next: usize,
     pub on: bool,
 }
@@ -40,44 +51,23 @@ fn kind_from(kind: Kinded, from: Cursor) -> TokenKind
     }
 }
 
-// Before the token at a position.
-pub fn before(at: usize, on: bool) -> Scan
-    ensures { λ r. ⌜ r ≡ beforeOf at on ⌝ }
-{
-    let token = Token {
-        kind: TokenKind::Eof,
-        len: 0,
-        start: at,
-    };
-    Scan {
-        token,
-        next: at,
-        on,
-    }
-}
-
-// Before the first token.
-pub fn start(on: bool) -> Scan
-    ensures { λ r. ⌜ r ≡ startOf on ⌝ }
-{
-    before(0, on)
-}
-
-// The scan past a scan of a text that was checked, with lists that were checked. The end is answered first.
-pub fn step(text: &[u8], starts: &[u32], continues: &[u32], emoji: &[u32], c: Scan) -> Scan
+// The token at a position of a text that was checked, with lists that were checked, without its place: for loops that need no lines. The end is answered
+// first.
+pub fn bare(
+    text: &[u8],
+    starts: &[u32],
+    continues: &[u32],
+    emoji: &[u32],
+    at: usize,
+    on: bool,
+) -> Bare
     requires { ⌜ Checked (now text) (lent (now starts) (now continues) (now emoji)) ⌝ }
-    ensures { λ r. ⌜ r ≡ nextOf (lent (now (starts .entry)) (now (continues .entry)) (now (emoji .entry))) (now (text .entry)) c ⌝ }
+    ensures { λ r. ⌜ r ≡ bareAt (lent (now (starts .entry)) (now (continues .entry)) (now (emoji .entry))) (now (text .entry)) at on ⌝ }
 {
-    let at = c.next;
-    let on = c.on;
     let Step::Got(first, from) = Cursor::new(at).peek(text) else {
-        let token = Token {
+        return Bare {
             kind: TokenKind::Eof,
             len: 0,
-            start: at,
-        };
-        return Scan {
-            token,
             next: at,
             on,
         };
@@ -86,15 +76,73 @@ pub fn step(text: &[u8], starts: &[u32], continues: &[u32], emoji: &[u32], c: Sc
     let kinded = scanned.kind;
     let next = scanned.next.place();
     let kind = kind_from(kinded, from);
-    let token = Token {
+    Bare {
         kind,
         len: cursor::narrow(next - at),
+        next,
+        on: advance::stays_on(on, kind),
+    }
+}
+
+// Before the token at a position in line `line`: in its place Eof, of no length.
+fn before_in(at: usize, line: u32, on: bool) -> Scan
+    ensures { λ r. ⌜ r ≡ beforeIn at line on ⌝ }
+{
+    let token = Token {
+        kind: TokenKind::Eof,
+        len: 0,
         start: at,
+        line,
     };
     Scan {
         token,
-        next,
-        on: advance::stays_on(on, kind),
+        next: at,
+        on,
+    }
+}
+
+// Before the token at a position of a text within the limit. The lines are counted from the text's beginning.
+pub fn before(text: &[u8], at: usize, on: bool) -> Scan
+    requires { ⌜ (at ≤ length (now text)) × (length (now text) ≤ 4294967295) ⌝ }
+    ensures { λ r. ⌜ r ≡ beforeOf (now (text .entry)) at on ⌝ }
+{
+    before_in(at, line_feeds::count(&text[..at]), on)
+}
+
+// Before the first token.
+pub fn start(on: bool) -> Scan
+    ensures { λ r. ⌜ r ≡ startOf on ⌝ }
+{
+    before_in(0, 0, on)
+}
+
+// The line past a scan: the line of its token, and the line feeds from there to the next position, which are counted once.
+fn next_line(text: &[u8], c: Scan) -> u32
+    requires { ⌜ Lined (now text) c ⌝ }
+    ensures { λ r. ⌜ r ≡ lineAt (now (text .entry)) (c .next) ⌝ }
+{
+    let token = c.token;
+    token.line + line_feeds::count(&text[token.start..c.next])
+}
+
+// The scan past a scan of a text that was checked, with lists that were checked.
+pub fn step(text: &[u8], starts: &[u32], continues: &[u32], emoji: &[u32], c: Scan) -> Scan
+    requires { ⌜ Ready (now text) (lent (now starts) (now continues) (now emoji)) c ⌝ }
+    ensures { λ r. ⌜ r ≡ nextOf (lent (now (starts .entry)) (now (continues .entry)) (now (emoji .entry))) (now (text .entry)) c ⌝ }
+{
+    let line = next_line(text, c);
+    let start = c.next;
+    let found = bare(text, starts, continues, emoji, start, c.on);
+    let token = Token {
+        kind: found.kind,
+        len: found.len,
+        start,
+        line,
+    };
+    Scan {
+        token,
+        next: found.next,
+        on: found.on,
     }
 }
 
@@ -152,7 +200,7 @@ pub fn advance_token(
     match token_verdict(text, starts, continues, emoji) {
         Verdict::Fine => {
             if text::starts_here(text, at) {
-                let c = before(at, on);
+                let c = before(text, at, on);
                 return OneToken::Given(step(text, starts, continues, emoji, c));
             }
             OneToken::Position(at)

@@ -24,18 +24,16 @@ pub fn fill(
     requires { ⌜ Checked (now text) (lent (now starts) (now continues) (now emoji)) × (33 ≤ length (now out)) ⌝ }
     ensures { λ r. ⌜ Filled (lent (now (starts .entry)) (now (continues .entry)) (now (emoji .entry))) (now (text .entry)) at (now (out .entry)) (now (out .exit)) r ⌝ }
 {
-    let mut scan = lexer::before(at, false);
+    let mut next = at;
     let mut used = 0;
     while 33 <= out.len() - used {
-        let past = lexer::step(text, starts, continues, emoji, scan);
-        let token = past.token;
+        let token = lexer::bare(text, starts, continues, emoji, next, false);
         if token.len == 0 {
             break;
         }
         let kind = token.kind;
         used = token_line::put_line(out, used, kind, token.len);
-        scan = past;
+        next = token.next;
     }
-    let next = scan.next;
     Chunk { next, used }
 }

@@ -4,8 +4,8 @@ ghost use mathlib.Core.List.{_++_};
 ghost use Prim.Native.Nat.{_≤_};
 ghost use lib.ListN.{length, drop, getD};
 ghost use Rattle.token.specs.Lists.{lent};
-ghost use Rattle.lexer.specs.Checked.{Checked};
 ghost use Rattle.lexer.specs.Steps.{following};
+ghost use Rattle.lexer.specs.Ready.{Ready};
 ghost use Rattle.list.specs.Records.{Tokenized, recordsOf};
 use lexer::Scan;
 use plan::ListAnswer;
@@ -21,7 +21,7 @@ fn fill(
     out: &mut [Token],
     n: usize,
 )
-    requires { ⌜ (n ≤ length (now out)) × (1 ≤ n → Checked (now text) (lent (now starts) (now continues) (now emoji))) ⌝ }
+    requires { ⌜ (n ≤ length (now out)) × (1 ≤ n → Ready (now text) (lent (now starts) (now continues) (now emoji)) s) ⌝ }
     ensures { λ _. ⌜ now (out .exit) ≡ following (lent (now (starts .entry)) (now (continues .entry)) (now (emoji .entry))) (now (text .entry)) n s ++ drop n (now (out .entry)) ⌝ }
 {
     let mut c = s;

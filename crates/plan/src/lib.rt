@@ -50,9 +50,12 @@ fn count(text: &[u8], starts: &[u32], continues: &[u32], emoji: &[u32], on: bool
     ensures { λ r. ⌜ r ≡ length (records (lent (now (starts .entry)) (now (continues .entry)) (now (emoji .entry))) on (now (text .entry))) ⌝ }
 {
     let mut n: usize = 0;
-    let mut scan = lexer::start(on);
-    while scan.next < text.len() {
-        scan = lexer::step(text, starts, continues, emoji, scan);
+    let mut at: usize = 0;
+    let mut here = on;
+    while at < text.len() {
+        let token = lexer::bare(text, starts, continues, emoji, at, here);
+        at = token.next;
+        here = token.on;
         n = n + 1;
     }
     n

@@ -12,6 +12,7 @@ fn blank() -> Token {
         kind: TokenKind::Bang,
         len: 5,
         start: 3,
+        line: 7,
     }
 }
 

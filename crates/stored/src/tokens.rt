@@ -12,7 +12,7 @@ fn bit(b: bool) -> usize {
     if b { 1 } else { 0 }
 }
 
-// Puts the kind, the suffix and the length of a token at a place, and one number more, and answers the place past them.
+// Puts the kind, the suffix and the length of a token at a place, one number more, and its line, and answers the place past them.
 pub fn put_token(out: &mut [u8], at: usize, token: Token, more: usize) -> usize
     requires { ⌜ at ≤ length (now out) ⌝ }
     ensures { λ r. ⌜ r ≤ length (now (out .exit)) ⌝ }
@@ -20,11 +20,11 @@ pub fn put_token(out: &mut [u8], at: usize, token: Token, more: usize) -> usize
     let kind = token.kind;
     let code = kinds::kind_code(kind) as usize;
     let suffix = kinds::suffix_of(kind) as usize;
-    let ns = [code, suffix, token.len as usize, more];
+    let ns = [code, suffix, token.len as usize, more, token.line as usize];
     vectors::put(out, at, &ns)
 }
 
-// Puts the seven numbers of a token that is given.
+// Puts the eight numbers of a token that is given.
 fn put_given(out: &mut [u8], scan: Scan) -> usize
     ensures { λ r. ⌜ r ≤ length (now (out .exit)) ⌝ }
 {

@@ -68,4 +68,4 @@ module _ (L M : Lists) (a : Alike L M) where
   same-tokens on cs = after-alike on 0 cs
 
   pub same-records : (on : Bool) (s : List ℕ) → records L on s ≡ records M on s
-  same-records on s = ap (placed 0) (same-tokens on (chars s))
+  same-records on s = ap (placed s 0) (same-tokens on (chars s))

@@ -111,20 +111,20 @@ abbrev pub total : List token.Token → ℕ
 total [] = 0
 total (t ∷ ts) = t .len + total ts
 
-total-placed : (start : ℕ) (ts : List Piece) → total (placed start ts) ≡ size (texts ts)
-total-placed start [] = refl
-total-placed start (t ∷ ts) = omega (arith, total-placed (start + size (t .text)) ts, size-append (t .text) (texts ts))
+total-placed : (s : List ℕ) (start : ℕ) (ts : List Piece) → total (placed s start ts) ≡ size (texts ts)
+total-placed s start [] = refl
+total-placed s start (t ∷ ts) = omega (arith, total-placed s (start + size (t .text)) ts, size-append (t .text) (texts ts))
 
-length-placed : (start : ℕ) (ts : List Piece) → length (placed start ts) ≡ length ts
-length-placed start [] = refl
-length-placed start (t ∷ ts) = ap suc (length-placed (start + size (t .text)) ts)
+length-placed : (s : List ℕ) (start : ℕ) (ts : List Piece) → length (placed s start ts) ≡ length ts
+length-placed s start [] = refl
+length-placed s start (t ∷ ts) = ap suc (length-placed s (start + size (t .text)) ts)
 
 -- THE RECORDS of a well-formed text have all of its bytes, and n bytes give at most n of them
 pub records-total : (L : Lists) (on : Bool) (s : List ℕ) → WellFormed s → total (records L on s) ≡ length s
-records-total L on s v = total-placed 0 (tokens L on (chars s)) ∙ ap size (cover L on (chars s)) ∙ v
+records-total L on s v = total-placed s 0 (tokens L on (chars s)) ∙ ap size (cover L on (chars s)) ∙ v
 
 pub few-records : (L : Lists) (on : Bool) (s : List ℕ) → length (records L on s) ≤ length s
-few-records L on s = omega (arith, length-placed 0 (tokens L on (chars s)), few-tokens L on (chars s), few-chars (chars s), size-chars s)
+few-records L on s = omega (arith, length-placed s 0 (tokens L on (chars s)), few-tokens L on (chars s), few-chars (chars s), size-chars s)
 
 -- records stand one after the other: each starts where the one before it ends, the first at 0, and each has at least one byte
 pub data Row : (start : ℕ) → List token.Token → Type 0 where
@@ -135,9 +135,9 @@ take-some : (n c : ℕ) (cs : List ℕ) → 1 ≤ n → 1 ≤ size (take n (c �
 take-some zero c cs h = absurd (omega arith)
 take-some (suc n) c cs h = omega (arith, width-some c)
 
-in-row : (L : Lists) (on : Bool) (cs : List ℕ) (start : ℕ) → Row start (placed start (tokens L on cs))
-in-row L = by-tokens L (λ (on : Bool) (cs : List ℕ). (start : ℕ) → Row start (placed start (tokens L on cs))) (λ on start. rw (tokens-none L on) ends)
+in-row : (L : Lists) (s : List ℕ) (on : Bool) (cs : List ℕ) (start : ℕ) → Row start (placed s start (tokens L on cs))
+in-row L s = by-tokens L (λ (on : Bool) (cs : List ℕ). (start : ℕ) → Row start (placed s start (tokens L on cs))) (λ on start. rw (tokens-none L on) ends)
     (λ on c cs ih start. rw (tokens-step L on c cs) (next refl (take-some (advance L on (c ∷ cs) .took) c cs (advance-some L on c cs)) (ih _)))
 
 pub records-in-row : (L : Lists) (on : Bool) (s : List ℕ) → Row 0 (records L on s)
-records-in-row L on s = in-row L on (chars s) 0
+records-in-row L on s = in-row L s on (chars s) 0

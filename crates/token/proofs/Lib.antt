@@ -4,3 +4,4 @@ pub mod Cover
 pub mod Alike
 pub mod Shapes
 pub mod Says
+pub mod Lines

@@ -50,7 +50,7 @@ abbrev fronted : TokenKind → ℕ → List ℕ → Line
 fronted k n s = record { text = s; on = true; kind = k; len = n }
 
 abbrev token : TokenKind → ℕ → Token
-token k n = record { kind = k; len = n; start = 0 }
+token k n = record { kind = k; len = n; start = 0; line = 0 }
 
 -- every line holds
 abbrev Hold : List Line → Type 0

@@ -1,9 +1,10 @@
--- The tokens of a text, without Eof, and their records: kind, length and start in bytes.
+-- The tokens of a text, without Eof, and their records: kind, length, start in bytes, and line.
 use Prim.Native.Nat.{ℕ, zero, suc, pred, _+_}
 use mathlib.Core.List.{List, [], _∷_}
 use mathlib.Core.Bool.{Bool}
 use lib.ListN.{take}
 use Rattle.text.specs.Chars.{chars, size}
+use Rattle.line_feeds.specs.Feeds.{lineAt}
 use Rattle.token.specs.declared.TokenKind.{TokenKind}
 use Rattle.token.specs.declared.Token as token
 use Rattle.token.specs.Lists.{Lists}
@@ -27,11 +28,11 @@ tokensAfter L on zero (c ∷ cs) =
 abbrev pub tokens : Lists → (on : Bool) → List ℕ → List Piece
 tokens L on cs = tokensAfter L on 0 cs
 
--- tokens in their places, the first of them at `start`
-abbrev pub placed : (start : ℕ) → List Piece → List token.Token
-placed start [] = []
-placed start (t ∷ ts) = record { kind = t .kind; len = size (t .text); start = start } ∷ placed (start + size (t .text)) ts
+-- tokens of a text s in their places, the first of them at `start`; the line of each is the number of LFs before it
+abbrev pub placed : (s : List ℕ) (start : ℕ) → List Piece → List token.Token
+placed s start [] = []
+placed s start (t ∷ ts) = record { kind = t .kind; len = size (t .text); start = start; line = lineAt s start } ∷ placed s (start + size (t .text)) ts
 
 -- THE RECORDS of a text's bytes
 abbrev pub records : Lists → (on : Bool) → List ℕ → List token.Token
-records L on s = placed 0 (tokens L on (chars s))
+records L on s = placed s 0 (tokens L on (chars s))

@@ -93,11 +93,12 @@ pub enum TokenKind {
     Eof,
 }
 
-// A token of a text: `len` bytes from byte `start` on.
+// A token of a text: `len` bytes from byte `start` on, with `line` line feeds before it.
 pub struct Token {
     pub kind: TokenKind,
     pub len: u32,
     pub start: usize,
+    pub line: u32,
 }
 
 // What `guarded_double_quoted_string` finds: the hashes before it, whether it ends, and its bytes.
