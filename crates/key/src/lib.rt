@@ -74,7 +74,7 @@ fn measure(text: &[u8], starts: &[u32], continues: &[u32], emoji: &[u32]) -> Nee
     let mut at: usize = 0;
     let mut gap = false;
     while at < text.len() {
-        let token = lexer::bare(text, starts, continues, emoji, at, false);
+        let token = lexer::bare_token(text, starts, continues, emoji, at, false);
         let kind = token.kind;
         if kinds::is_broken(kind) {
             return Need::Mending(at);
@@ -118,7 +118,7 @@ fn write(text: &[u8], starts: &[u32], continues: &[u32], emoji: &[u32], out: &mu
     let mut at: usize = 0;
     let mut gap = false;
     while at < text.len() {
-        let token = lexer::bare(text, starts, continues, emoji, at, false);
+        let token = lexer::bare_token(text, starts, continues, emoji, at, false);
         let kind = token.kind;
         let trivia = kinds::is_trivia(kind);
         used = put_piece(text, at, token.next, trivia, gap, out, used);

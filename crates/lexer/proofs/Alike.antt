@@ -8,9 +8,13 @@ use Rattle.text.specs.Chars.{chars}
 use Rattle.token.specs.Lists.{Lists}
 use Rattle.token.specs.Alike.{Alike}
 use Rattle.token.proofs.Alike.{same-token}
-use Rattle.lexer.specs.Scans.{tokenSize, scanAt}
+use Rattle.lexer.specs.Scans.{tokenSize, bareAt}
 use Rattle.lexer.specs.Answers.{tokenVerdict, givenAt, oneToken}
 use Rattle.lexer.specs.Taken.{Taken}
+
+pub same-bare : (s : List ℕ) (L M : Lists) → Alike L M → (at : ℕ) (on : Bool) → bareAt L s at on ≡ bareAt M s at on
+unfolding bareAt tokenSize
+same-bare s L M a at on = rw (same-token L M a on (chars (drop at s))) refl
 
 module _ (limit : ℕ) (s : List ℕ) (L M : Lists) (l : Taken limit L) (m : Taken limit M) where
   pub same-verdict : tokenVerdict limit s L ≡ tokenVerdict limit s M
@@ -18,5 +22,5 @@ module _ (limit : ℕ) (s : List ℕ) (L M : Lists) (l : Taken limit L) (m : Tak
   same-verdict = rw (l, m) refl
 
   pub same-one : Alike L M → (at : ℕ) (on : Bool) → oneToken limit s L at on ≡ oneToken limit s M at on
-  unfolding givenAt scanAt tokenSize
-  same-one a at on = rw (same-verdict, same-token L M a on (chars (drop at s))) refl
+  unfolding givenAt
+  same-one a at on = rw (same-verdict, same-bare s L M a at on) refl

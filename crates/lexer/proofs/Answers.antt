@@ -2,8 +2,10 @@
 use mathlib.Core.Path.{_≡_, sym, _∙_}
 use Rattle.refusal.specs.declared.Numbers.{Numbers}
 use Rattle.refusal.specs.declared.Verdict.{Verdict}
+use Rattle.lexer.specs.declared.Bare.{Bare}
 use Rattle.lexer.specs.declared.Scan.{Scan}
 use Rattle.lexer.specs.declared.OneToken.{OneToken}
+use Rattle.lexer.proofs.bare_token.Reads as bare-token
 use Rattle.lexer.proofs.before.Reads as before
 use Rattle.lexer.proofs.start.Reads as start
 use Rattle.lexer.proofs.step.Reads as step
@@ -28,3 +30,6 @@ one-start κs a r q x y p e = p ∙ sym e
 
 pub one-step : (κs : _) (a : _) (r q : Scan) (x y : _) → step.Post κs a r x → step.Post κs a q y → r ≡ q
 one-step κs a r q x y p e = p ∙ sym e
+
+pub one-bare : (κs : _) (a : _) (r q : Bare) (x y : _) → bare-token.Post κs a r x → bare-token.Post κs a q y → r ≡ q
+one-bare κs a r q x y p e = p ∙ sym e

@@ -1,28 +1,33 @@
 -- What the verdict and the position say of the text, the lists and the answer.
 use Prim.Native.Nat.{ℕ, _≤_}
-use mathlib.Core.Path.{_≡_, sym, _∙_}
+use mathlib.Core.Path.{_≡_, sym, ap, _∙_}
 use mathlib.Core.Bool.{Bool, true, false}
 use mathlib.Core.List.{List}
-use lib.ListN.{length}
+use lib.ListN.{length, drop}
+use native.Mathlib.Omega.{arith}
 use Rattle.refusal.specs.declared.Bad.{Bad}
 use Rattle.refusal.specs.declared.Verdict.{Verdict}
 use Rattle.refusal.specs.declared.Verdict.the-variants as verdict
 use Rattle.refusal.specs.Order.{first, listsInOrder, refusedOr}
 use Rattle.refusal.proofs.Orders.{first-1, first-2}
-use Rattle.text.specs.Chars.{WellFormed}
+use Rattle.text.specs.Chars.{chars, size, WellFormed}
 use Rattle.text.specs.Position.{onBoundary, startsHere}
 use Rattle.text.specs.Verdicts.{tooLong, utf8Verdict}
-use Rattle.text.proofs.Positions.{boundary-byte}
+use Rattle.text.proofs.Positions.{boundary-parts, boundary-byte}
+use Rattle.text.proofs.Texts.{size-chars}
 use Rattle.text.proofs.Verdicts.{fine-long, fine-utf8}
 use Rattle.ranges.specs.Rules.{listVerdict}
 use Rattle.ranges.proofs.Laws.{fine-good}
 use Rattle.token.specs.Lists.{Lists}
+use Rattle.token.proofs.Cover.{size-append}
 use Rattle.lexer.specs.declared.Scan.{Scan}
 use Rattle.lexer.specs.declared.OneToken.{OneToken}
 use Rattle.lexer.specs.declared.OneToken.the-variants.{Given, Position, Refused}
 use Rattle.lexer.specs.Checked.{Checked}
 use Rattle.lexer.specs.Steps.{beforeOf, nextOf}
+use Rattle.lexer.specs.Ready.{Ready}
 use Rattle.lexer.specs.Answers.{tokenVerdict, givenAt, oneToken}
+use Rattle.lexer.proofs.Walks.{before-ready}
 
 -- THE VERDICT lets through: the text is within the limit and well-formed, and the lists are good
 module _ (limit : ℕ) (s : List ℕ) (L : Lists) {v : Verdict} (e : v ≡ tokenVerdict limit s L) (k : v ≡ verdict.Fine) where
@@ -30,7 +35,7 @@ module _ (limit : ℕ) (s : List ℕ) (L : Lists) {v : Verdict} (e : v ≡ token
   unfolding tokenVerdict
   lists-fine = first-1 _ (utf8Verdict s) (first-2 (tooLong s) _ (sym e ∙ k))
 
-  text-fits : length s ≤ 4294967295
+  pub text-fits : length s ≤ 4294967295
   unfolding tokenVerdict
   text-fits = fine-long s (first-1 (tooLong s) _ (sym e ∙ k))
 
@@ -52,7 +57,16 @@ module _ (limit : ℕ) (s : List ℕ) (L : Lists) {v : Verdict} (e : v ≡ token
     boundary : t ≡ onBoundary s at
     boundary = h ∙ sym (boundary-byte s text-well at)
 
-    pub given-in : {c x : Scan} → t ≡ true → c ≡ beforeOf at on → x ≡ nextOf L s c → Given x ≡ oneToken limit s L at on
+    -- a position that is a boundary lies in the text, and a step from there is ready
+    pub at-within : t ≡ true → at ≤ length s
+    at-within p =
+        let q = boundary-parts s at (sym boundary ∙ p) in
+        omega (arith, q .bytes, sym (ap size (q .joined)), size-append (q .before) (chars (drop at s)), size-chars s)
+
+    pub at-ready : {c : Scan} → t ≡ true → c ≡ beforeOf s at on → Ready s L c
+    at-ready p f = before-ready {on = on} fine-checked (at-within p) f
+
+    pub given-in : {c x : Scan} → t ≡ true → c ≡ beforeOf s at on → x ≡ nextOf L s c → Given x ≡ oneToken limit s L at on
     unfolding givenAt
     given-in p f q = rw (← e, k, ← boundary, p, q, f)
 

@@ -1,4 +1,5 @@
 mod Scanning
+mod Stepping
 pub mod Checks
 mod Numbering
 pub mod Records

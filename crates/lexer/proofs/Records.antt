@@ -14,12 +14,13 @@ use Rattle.text.specs.Position.{edge, onBoundary}
 use Rattle.text.proofs.Positions.{boundary-parts}
 use Rattle.text.proofs.Coding.{Fact}
 use Rattle.text.proofs.Texts.{by-chars}
+use Rattle.line_feeds.specs.Feeds.{lineAt}
 use Rattle.token.specs.declared.Token as token
 use Rattle.token.specs.Lists.{Lists}
 use Rattle.token.specs.Advance.{advance}
 use Rattle.token.specs.Tokens.{tokens, placed}
 use Rattle.token.proofs.Cover.{tokens-step, advance-room, size-append}
-use Rattle.lexer.specs.Scans.{tokenSize, scanAt, recordsFrom}
+use Rattle.lexer.specs.Scans.{tokenSize, bareAt, inPlace, recordsFrom}
 
 -- past the bytes of the first k characters, the other characters are left
 pub chars-past : (s : List ℕ) (k : ℕ) → k ≤ length (chars s) → chars (drop (size (take k (chars s))) s) ≡ drop k (chars s)
@@ -40,21 +41,21 @@ chars-past = by-chars (λ (s : List ℕ). (k : ℕ) → k ≤ length (chars s) �
 
 module _ (L : Lists) (s : List ℕ) (at : ℕ) (on : Bool) where
   -- what is left past the token at a position
-  pub past-token : chars (drop (scanAt L s at on .next) s) ≡ drop (advance L on (chars (drop at s)) .took) (chars (drop at s))
-  unfolding scanAt tokenSize
+  pub past-token : chars (drop (bareAt L s at on .next) s) ≡ drop (advance L on (chars (drop at s)) .took) (chars (drop at s))
+  unfolding bareAt tokenSize
   past-token =
       ap chars (sym (drop-drop (tokenSize L on (chars (drop at s))) at s))
       ∙ chars-past (drop at s) (advance L on (chars (drop at s)) .took) (advance-room L on (chars (drop at s)))
 
-  -- at a character: the token there, and then the records from the next position on
-  pub step-records : (c : ℕ) (cs : List ℕ) → chars (drop at s) ≡ c ∷ cs → recordsFrom L s at on ≡ scanAt L s at on .token ∷ recordsFrom L s (scanAt L s at on .next) (scanAt L s at on .on)
-  unfolding scanAt tokenSize
+  -- at a character: the token there in its place, and then the records from the next position on
+  pub step-records : (c : ℕ) (cs : List ℕ) → chars (drop at s) ≡ c ∷ cs → recordsFrom L s at on ≡ inPlace s at (bareAt L s at on) ∷ recordsFrom L s (bareAt L s at on .next) (bareAt L s at on .on)
+  unfolding bareAt tokenSize
   step-records c cs e =
-      ap (λ (l : List ℕ). placed at (tokens L on l)) e ∙ ap (placed at) (tokens-step L on c cs) ∙ sym (ap row e)
-      ∙ ap (λ (l : List ℕ). scanAt L s at on .token ∷ placed (scanAt L s at on .next) (tokens L (scanAt L s at on .on) l)) (sym past-token)
+      ap (λ (l : List ℕ). placed s at (tokens L on l)) e ∙ ap (placed s at) (tokens-step L on c cs) ∙ sym (ap row e)
+      ∙ ap (λ (l : List ℕ). inPlace s at (bareAt L s at on) ∷ placed s (bareAt L s at on .next) (tokens L (bareAt L s at on .on) l)) (sym past-token)
     where
       row : List ℕ → List token.Token
-      row l = record { kind = advance L on l .said .kind; len = tokenSize L on l; start = at } ∷ placed (at + tokenSize L on l) (tokens L (advance L on l .said .on) (drop (advance L on l .took) l))
+      row l = record { kind = advance L on l .said .kind; len = tokenSize L on l; start = at; line = lineAt s at } ∷ placed s (at + tokenSize L on l) (tokens L (advance L on l .said .on) (drop (advance L on l .took) l))
 
 -- characters end where their bytes do
 edge-size : (u v : List ℕ) → edge (u ++ v) (size u) ≡ true
@@ -71,8 +72,8 @@ edge-size (c ∷ u) v =
     either false e = e
 
 -- THE NEXT POSITION is on a boundary where this one is: handed back, it is never refused
-pub next-boundary : (L : Lists) (s : List ℕ) (at : ℕ) (on : Bool) → onBoundary s at ≡ true → onBoundary s (scanAt L s at on .next) ≡ true
-unfolding scanAt tokenSize
+pub next-boundary : (L : Lists) (s : List ℕ) (at : ℕ) (on : Bool) → onBoundary s at ≡ true → onBoundary s (bareAt L s at on .next) ≡ true
+unfolding bareAt tokenSize
 next-boundary L s at on e =
     let p = boundary-parts s at e in
     let cs = chars (drop at s) in

@@ -1,4 +1,4 @@
--- The step, in the facts of the code.
+-- The token at a position, in the facts of the code.
 use Prim.Native.Nat.{ℕ, _+_, _-_, _≤_}
 use mathlib.Core.Path.{_≡_, sym, ap, subst, _∙_}
 use mathlib.Core.Bool.{Bool}
@@ -28,8 +28,8 @@ use Rattle.cursor.proofs.Steps.{rest-at}
 use Rattle.cursor.proofs.Moves.{char-at, end-at}
 use Rattle.cursor.proofs.Bytes.{char-within, moved-within}
 use Rattle.cursor.proofs.Runs.{ran-bytes}
-use Rattle.lexer.specs.declared.Scan.{Scan}
-use Rattle.lexer.specs.Scans.{tokenSize, scanAt, Narrow}
+use Rattle.lexer.specs.declared.Bare.{Bare}
+use Rattle.lexer.specs.Scans.{tokenSize, bareAt, Narrow}
 
 -- THE KIND
 module _ {k : Kinded} (b : Cursor) where
@@ -57,20 +57,20 @@ narrowed : (k : Kinded) (b n : Cursor) → Past b n k → 1 ≤ b .at → n .at 
 narrowed (Plain k) b n p l m = tt
 narrowed (Literal k d) b n p l m = (p .from, omega (arith, p .from, p .to))
 
-abbrev scan : (at : ℕ) (k : TokenKind) (l n : ℕ) (t : Bool) → Scan
-scan at k l n t = record { token = record { kind = k; len = l; start = at }; next = n; on = t }
+abbrev bare : (k : TokenKind) (l n : ℕ) (t : Bool) → Bare
+bare k l n t = record { kind = k; len = l; next = n; on = t }
 
-same-scan : {at l₁ l₂ n₁ n₂ : ℕ} {k₁ k₂ : TokenKind} {t₁ t₂ : Bool} → k₁ ≡ k₂ → l₁ ≡ l₂ → n₁ ≡ n₂ → t₁ ≡ t₂ → scan at k₁ l₁ n₁ t₁ ≡ scan at k₂ l₂ n₂ t₂
-same-scan p q r s = rw (p, q, r, s)
+same-bare : {l₁ l₂ n₁ n₂ : ℕ} {k₁ k₂ : TokenKind} {t₁ t₂ : Bool} → k₁ ≡ k₂ → l₁ ≡ l₂ → n₁ ≡ n₂ → t₁ ≡ t₂ → bare k₁ l₁ n₁ t₁ ≡ bare k₂ l₂ n₂ t₂
+same-bare p q r s = rw (p, q, r, s)
 
 -- THE END
 module _ (L : Lists) (s : List ℕ) {at : ℕ} (on : Bool) {a : Cursor} {r : Step} (e : a .at ≡ at) (h : Seen s a r) where
-  pub at-end : r ≡ Over → record { token = record { kind = kind.Eof; len = 0; start = at }; next = at; on = on } ≡ scanAt L s at on
-  unfolding scanAt tokenSize advance
+  pub at-end : r ≡ Over → record { kind = kind.Eof; len = 0; next = at; on = on } ≡ bareAt L s at on
+  unfolding bareAt tokenSize advance
   at-end q =
       let n : chars (drop at s) ≡ [] = sym (rest-at s a e) ∙ end-at q h in
       let z : tokenSize L on (chars (drop at s)) ≡ 0 = ap (tokenSize L on) n in
-      same-scan (sym (ap (λ (cs : List ℕ). advance L on cs .said .kind) n)) (sym z) (omega (arith, z)) (sym (ap (λ (cs : List ℕ). advance L on cs .said .on) n))
+      same-bare (sym (ap (λ (cs : List ℕ). advance L on cs .said .kind) n)) (sym z) (omega (arith, z)) (sym (ap (λ (cs : List ℕ). advance L on cs .said .on) n))
 
   -- A CHARACTER, and what the decision over it gives
   module _ {c : ℕ} {b : Cursor} (q : r ≡ Got c b) {x : Scanned} (g : Begun (decided L on c) s b x) where
@@ -105,10 +105,10 @@ module _ (L : Lists) (s : List ℕ) {at : ℕ} (on : Bool) {a : Cursor} {r : Ste
       unfolding advance
       said = ap (λ (cs : List ℕ). advance L on cs .said) begins
 
-      pub scanned : {l : ℕ} {k : TokenKind} {t : Bool} → k ≡ kindFrom 1 b (x .kind) → l ≡ n - at → t ≡ and on (stays k) → record { token = record { kind = k; len = l; start = at }; next = n; on = t } ≡ scanAt L s at on
-      unfolding scanAt
+      pub scanned : {l : ℕ} {k : TokenKind} {t : Bool} → k ≡ kindFrom 1 b (x .kind) → l ≡ n - at → t ≡ and on (stays k) → record { kind = k; len = l; next = n; on = t } ≡ bareAt L s at on
+      unfolding bareAt
       scanned {l} {k} {t} f d o =
           let v : k ≡ advance L on (chars (drop at s)) .said .kind = f ∙ g .ran .said ∙ sym (ap (λ (y : Told). y .kind) said) in
           let w : t ≡ advance L on (chars (drop at s)) .said .on = o ∙ ap (λ (j : TokenKind). and on (stays j)) (f ∙ g .ran .said) ∙ sym (ap (λ (y : Told). y .on) said) in
           let u : n ≡ at + tokenSize L on (chars (drop at s)) = m ∙ ends in
-          same-scan v (d ∙ omega arith) u w
+          same-bare v (d ∙ omega arith) u w

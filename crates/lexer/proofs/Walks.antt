@@ -3,19 +3,23 @@ use Prim.Native.Nat.{ℕ, _+_, _≤_, _<_}
 use mathlib.Core.Path.{_≡_, refl, sym, ap, _∙_}
 use mathlib.Core.Bool.{Bool, true}
 use mathlib.Core.List.{List, [], _∷_}
-use lib.ListN.{length, drop, length-drop}
+use lib.ListN.{length, take, drop, length-drop, take-append-drop}
 use native.Mathlib.Omega.{arith}
 use Rattle.text.specs.Chars.{chars, size, WellFormed}
 use Rattle.text.specs.Position.{edge, onBoundary}
 use Rattle.text.proofs.Positions.{boundary-parts}
 use Rattle.text.proofs.Texts.{size-chars, width-some}
+use Rattle.line_feeds.specs.Feeds.{lineAt}
 use Rattle.token.specs.Lists.{Lists}
 use Rattle.token.specs.Advance.{advance}
 use Rattle.token.specs.Tokens.{tokens, tokensAfter, placed}
 use Rattle.token.proofs.Cover.{advance-some, size-append}
+use Rattle.lexer.specs.declared.Bare.{Bare}
 use Rattle.lexer.specs.declared.Scan.{Scan}
-use Rattle.lexer.specs.Scans.{scanAt}
-use Rattle.lexer.specs.Steps.{nextOf, recordsPast}
+use Rattle.lexer.specs.Checked.{Checked}
+use Rattle.lexer.specs.Scans.{tokenSize, bareAt, inPlace, recordsFrom}
+use Rattle.lexer.specs.Steps.{beforeOf, startOf, nextOf, recordsPast}
+use Rattle.lexer.specs.Ready.{Ready}
 use Rattle.lexer.proofs.Records.{past-token, step-records, next-boundary}
 
 -- a text begins on a boundary
@@ -50,33 +54,80 @@ tokens-none : (L : Lists) (on : Bool) → tokens L on [] ≡ []
 unfolding tokensAfter
 tokens-none L on = refl
 
-pub records-none : (L : Lists) (s : List ℕ) (c : Scan) → chars (drop (c .next) s) ≡ [] → recordsPast L s c ≡ []
-records-none L s c e = ap (λ (cs : List ℕ). placed (c .next) (tokens L (c .on) cs)) e ∙ ap (placed (c .next)) (tokens-none L (c .on))
+pub none-from : (L : Lists) (s : List ℕ) (at : ℕ) (on : Bool) → chars (drop at s) ≡ [] → recordsFrom L s at on ≡ []
+none-from L s at on e = ap (λ (cs : List ℕ). placed s at (tokens L on cs)) e ∙ ap (placed s at) (tokens-none L on)
 
-pub records-end : (L : Lists) (s : List ℕ) (c : Scan) → length s ≤ c .next → recordsPast L s c ≡ []
-records-end L s c h = records-none L s c (none-past s (c .next) h)
+pub end-from : (L : Lists) (s : List ℕ) (at : ℕ) (on : Bool) → length s ≤ at → recordsFrom L s at on ≡ []
+end-from L s at on h = none-from L s at on (none-past s at h)
 
--- A STEP OF A WALK, in the facts of the code
-module _ (L : Lists) (s : List ℕ) (c : Scan) {x : Scan} (e : x ≡ nextOf L s c) where
-  pub begins-there : x .token .start ≡ c .next
-  unfolding scanAt
-  begins-there = ap (λ (y : Scan). y .token .start) e
+-- A TOKEN OF A WALK without its place, in the facts of the code
+module _ (L : Lists) (s : List ℕ) (at : ℕ) (on : Bool) {x : Bare} (e : x ≡ bareAt L s at on) where
+  pub ends-past : x .next ≡ at + x .len
+  unfolding bareAt
+  ends-past = rw e
 
-  pub ends-there : x .next ≡ c .next + x .token .len
-  unfolding scanAt
-  ends-there = rw e
+  pub past-edged : onBoundary s at ≡ true → onBoundary s (x .next) ≡ true
+  past-edged b = rw e (next-boundary L s at on b)
 
-  pub next-edged : onBoundary s (c .next) ≡ true → onBoundary s (x .next) ≡ true
-  next-edged b = rw e (next-boundary L s (c .next) (c .on) b)
+  -- it ends in the text
+  pub past-inside : at ≤ length s → x .next ≤ length s
+  unfolding bareAt tokenSize
+  past-inside h =
+      let cs = chars (drop at s) in
+      let k = advance L on cs .took in
+      omega (arith, ap (λ (y : Bare). y .next) e, sym (ap size (take-append-drop k cs)), size-append (take k cs) (drop k cs), size-chars (drop at s), length-drop at s)
 
   -- at a character
-  module _ (t : Char (chars (drop (c .next) s))) where
-    -- the token, and then those past it
-    pub next-records : recordsPast L s c ≡ x .token ∷ recordsPast L s x
-    next-records = rw e (step-records L s (c .next) (c .on) (t .0) (t .1) (t .2))
+  module _ (t : Char (chars (drop at s))) where
+    -- the token in its place, and then those past it
+    pub records-on : recordsFrom L s at on ≡ inPlace s at x ∷ recordsFrom L s (x .next) (x .on)
+    records-on = rw e (step-records L s at on (t .0) (t .1) (t .2))
 
     -- fewer characters are left
+    pub fewer-left : length (chars (drop (x .next) s)) < length (chars (drop at s))
+    fewer-left =
+        let q : 1 ≤ advance L on (chars (drop at s)) .took = rw (t .2) (advance-some L on (t .0) (t .1)) in
+        rw e (omega (arith, q, ap length (t .2), ap length (past-token L s at on), length-drop (advance L on (chars (drop at s)) .took) (chars (drop at s))))
+
+-- A STEP OF A WALK, likewise
+pub records-none : (L : Lists) (s : List ℕ) (c : Scan) → chars (drop (c .next) s) ≡ [] → recordsPast L s c ≡ []
+records-none L s c e = none-from L s (c .next) (c .on) e
+
+pub records-end : (L : Lists) (s : List ℕ) (c : Scan) → length s ≤ c .next → recordsPast L s c ≡ []
+records-end L s c h = end-from L s (c .next) (c .on) h
+
+module _ (L : Lists) (s : List ℕ) (c : Scan) {x : Scan} (e : x ≡ nextOf L s c) where
+  pub begins-there : x .token .start ≡ c .next
+  begins-there = ap (λ (y : Scan). y .token .start) e
+
+  pub line-there : x .token .line ≡ lineAt s (c .next)
+  line-there = ap (λ (y : Scan). y .token .line) e
+
+  pub next-edged : onBoundary s (c .next) ≡ true → onBoundary s (x .next) ≡ true
+  next-edged b = rw e (past-edged L s (c .next) (c .on) refl b)
+
+  module _ (t : Char (chars (drop (c .next) s))) where
+    pub next-records : recordsPast L s c ≡ x .token ∷ recordsPast L s x
+    next-records = rw e (records-on L s (c .next) (c .on) refl t)
+
     pub fewer : length (chars (drop (x .next) s)) < length (chars (drop (c .next) s))
-    fewer =
-        let q : 1 ≤ advance L (c .on) (chars (drop (c .next) s)) .took = rw (t .2) (advance-some L (c .on) (t .0) (t .1)) in
-        rw e (omega (arith, q, ap length (t .2), ap length (past-token L s (c .next) (c .on)), length-drop (advance L (c .on) (chars (drop (c .next) s)) .took) (chars (drop (c .next) s))))
+    fewer = rw e (fewer-left L s (c .next) (c .on) refl t)
+
+  -- IT IS READY for the next step where the one before it was
+  pub next-ready : Ready s L c → Ready s L x
+  next-ready r = rw e (record {
+    checked = r .checked;
+    lined = record {
+      line = refl;
+      forward = omega (arith, ends-past L s (c .next) (c .on) refl);
+      inside = past-inside L s (c .next) (c .on) refl (r .lined .inside);
+      fits = r .lined .fits;
+    };
+  })
+
+-- and so is one before the first step
+pub before-ready : {L : Lists} {s : List ℕ} {at : ℕ} {on : Bool} {c : Scan} → Checked s L → at ≤ length s → c ≡ beforeOf s at on → Ready s L c
+before-ready k h e = rw e (record { checked = k; lined = record { line = refl; forward = omega arith; inside = h; fits = k .fits } })
+
+pub start-ready : {L : Lists} {s : List ℕ} {on : Bool} {c : Scan} → Checked s L → c ≡ startOf on → Ready s L c
+start-ready {on = on} k e = before-ready {on = on} k (omega arith) e

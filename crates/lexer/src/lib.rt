@@ -53,7 +53,7 @@ fn kind_from(kind: Kinded, from: Cursor) -> TokenKind
 
 // The token at a position of a text that was checked, with lists that were checked, without its place: for loops that need no lines. The end is answered
 // first.
-pub fn bare(
+pub fn bare_token(
     text: &[u8],
     starts: &[u32],
     continues: &[u32],
@@ -122,7 +122,9 @@ fn next_line(text: &[u8], c: Scan) -> u32
     ensures { λ r. ⌜ r ≡ lineAt (now (text .entry)) (c .next) ⌝ }
 {
     let token = c.token;
-    token.line + line_feeds::count(&text[token.start..c.next])
+    let from = token.start;
+    let to = c.next;
+    token.line + line_feeds::count(&text[from..to])
 }
 
 // The scan past a scan of a text that was checked, with lists that were checked.
@@ -132,9 +134,10 @@ pub fn step(text: &[u8], starts: &[u32], continues: &[u32], emoji: &[u32], c: Sc
 {
     let line = next_line(text, c);
     let start = c.next;
-    let found = bare(text, starts, continues, emoji, start, c.on);
+    let found = bare_token(text, starts, continues, emoji, start, c.on);
+    let kind = found.kind;
     let token = Token {
-        kind: found.kind,
+        kind,
         len: found.len,
         start,
         line,

@@ -27,7 +27,7 @@ pub fn fill(
     let mut next = at;
     let mut used = 0;
     while 33 <= out.len() - used {
-        let token = lexer::bare(text, starts, continues, emoji, next, false);
+        let token = lexer::bare_token(text, starts, continues, emoji, next, false);
         if token.len == 0 {
             break;
         }

@@ -13,35 +13,37 @@ use Rattle.token.specs.declared.Token.{Token}
 use Rattle.token.specs.Lists.{Lists}
 use Rattle.token.specs.Tokens.{records}
 use Rattle.token.proofs.Cover.{few-records}
+use Rattle.lexer.specs.declared.Bare.{Bare}
 use Rattle.lexer.specs.declared.Scan.{Scan}
 use Rattle.lexer.specs.Checked.{Checked}
+use Rattle.lexer.specs.Scans.{bareAt, recordsFrom}
 use Rattle.lexer.specs.Steps.{startOf, nextOf, following, recordsPast}
-use Rattle.lexer.proofs.Walks.{begins-on, Char, char-there, records-end, next-edged, next-records, fewer}
+use Rattle.lexer.proofs.Walks.{begins-on, Char, char-there, end-from, past-edged, records-on, fewer-left, records-end, next-edged, next-records}
 
 -- A COUNT SO FAR: the position is on a boundary, and the tokens counted and those from there on are the text's
-pub record Counted (L : Lists) (s : List ℕ) (on : Bool) (n : ℕ) (c : Scan) : Type 0 where
-  pub edged : onBoundary s (c .next) ≡ true
-  pub total : n + length (recordsPast L s c) ≡ length (records L on s)
+pub record Counted (L : Lists) (s : List ℕ) (on : Bool) (n at : ℕ) (here : Bool) : Type 0 where
+  pub edged : onBoundary s at ≡ true
+  pub total : n + length (recordsFrom L s at here) ≡ length (records L on s)
 
-pub counted-none : {L : Lists} {s : List ℕ} {on : Bool} {c : Scan} → c ≡ startOf on → Counted L s on 0 c
-counted-none {s = s} e = rw e (record { edged = begins-on (chars s); total = omega arith })
+pub counted-none : (L : Lists) (s : List ℕ) (on : Bool) → Counted L s on 0 0 on
+counted-none L s on = record { edged = begins-on (chars s); total = omega arith }
 
-module _ {L : Lists} {s : List ℕ} {on : Bool} {n : ℕ} {c : Scan} (k : Counted L s on n c) where
+module _ {L : Lists} {s : List ℕ} {on : Bool} {n at : ℕ} {here : Bool} (k : Counted L s on n at here) where
   pub count-fits : Checked s L → n + 1 < 18446744073709551616
   count-fits h = omega (arith, h .fits, k .total, few-records L on s)
 
-  pub counted-all : length s ≤ c .next → n ≡ length (records L on s)
-  counted-all h = omega (arith, k .total, ap length (records-end L s c h))
+  pub counted-all : length s ≤ at → n ≡ length (records L on s)
+  counted-all h = omega (arith, k .total, ap length (end-from L s at here h))
 
-  module _ {x : Scan} (ready : Checked s L) (l : c .next < length s) (e : x ≡ nextOf L s c) where
-    there : Char (chars (drop (c .next) s))
-    there = char-there s (c .next) (ready .well) (k .edged) l
+  module _ {x : Bare} (ready : Checked s L) (l : at < length s) (e : x ≡ bareAt L s at here) where
+    there : Char (chars (drop at s))
+    there = char-there s at (ready .well) (k .edged) l
 
-    pub counted-less : length (chars (drop (x .next) s)) < length (chars (drop (c .next) s))
-    counted-less = fewer L s c e there
+    pub counted-less : length (chars (drop (x .next) s)) < length (chars (drop at s))
+    counted-less = fewer-left L s at here e there
 
-    pub counted-on : Counted L s on (n + 1) x
-    counted-on = record { edged = next-edged L s c e (k .edged); total = omega (arith, k .total, ap length (next-records L s c e there)) }
+    pub counted-on : Counted L s on (n + 1) (x .next) (x .on)
+    counted-on = record { edged = past-edged L s at here e (k .edged); total = omega (arith, k .total, ap length (records-on L s at here e there)) }
 
 -- THE TOKENS of as many steps as there are records are the records
 module _ (L : Lists) (s : List ℕ) (w : WellFormed s) where

@@ -16,10 +16,11 @@ use Rattle.token.specs.declared.Token.{Token}
 use Rattle.token.specs.Lists.{Lists}
 use Rattle.token.specs.Tokens.{records}
 use Rattle.lexer.specs.declared.Scan.{Scan}
-use Rattle.lexer.specs.Checked.{Checked}
 use Rattle.lexer.specs.Steps.{startOf, following}
+use Rattle.lexer.specs.Ready.{Ready}
 use Rattle.lexer.specs.Answers.{tokenVerdict}
 use Rattle.lexer.proofs.Checks.{fine-checked}
+use Rattle.lexer.proofs.Walks.{start-ready}
 use Rattle.plan.specs.declared.ListAnswer.{ListAnswer}
 use Rattle.plan.specs.declared.ListAnswer.the-variants.{Listed, Slots, Refused}
 use Rattle.plan.specs.declared.Plan as plan
@@ -71,12 +72,12 @@ module _ (limit : ℕ) (s : List ℕ) (L : Lists) (on : Bool) (slots : ℕ) wher
   pub plan-room : planOf limit s L on slots .n ≤ slots
   plan-room = room-at (tokenVerdict limit s L) (leb total slots) refl
 
-  ready-at : (v : Verdict) (t : Bool) → v ≡ tokenVerdict limit s L → 1 ≤ toWrite (answered v t) → Checked s L
-  ready-at verdict.Fine t e h = fine-checked limit s L e refl
+  ready-at : (v : Verdict) (t : Bool) → v ≡ tokenVerdict limit s L → 1 ≤ toWrite (answered v t) → Ready s L (startOf on)
+  ready-at verdict.Fine t e h = start-ready {on = on} (fine-checked limit s L e refl) refl
   ready-at (verdict.Refused bad) t e h = absurd (omega arith)
 
   -- a step is asked only where the text and the lists were checked
-  pub plan-ready : 1 ≤ planOf limit s L on slots .n → Checked s L
+  pub plan-ready : 1 ≤ planOf limit s L on slots .n → Ready s L (startOf on)
   plan-ready = ready-at (tokenVerdict limit s L) (leb total slots) refl
 
   listed-at : (old : List Token) (v : Verdict) (t : Bool) → v ≡ tokenVerdict limit s L

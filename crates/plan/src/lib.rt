@@ -53,7 +53,7 @@ fn count(text: &[u8], starts: &[u32], continues: &[u32], emoji: &[u32], on: bool
     let mut at: usize = 0;
     let mut here = on;
     while at < text.len() {
-        let token = lexer::bare(text, starts, continues, emoji, at, here);
+        let token = lexer::bare_token(text, starts, continues, emoji, at, here);
         at = token.next;
         here = token.on;
         n = n + 1;

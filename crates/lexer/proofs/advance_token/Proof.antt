@@ -1,5 +1,5 @@
 -- `lexer::advance_token` meets its contract. What the verdict lets through, and the position (Checks).
-use Rattle.lexer.proofs.Checks.{fine-checked, given-in, position-in, refused-in}
+use Rattle.lexer.proofs.Checks.{text-fits, at-within, at-ready, given-in, position-in, refused-in}
 use borrow.Author.Needs.{needs}
 use Rattle.lexer.proofs.advance_token.Statement.{statement}
 use Rattle.lexer.proofs.advance_token.Tie as tie
@@ -14,10 +14,10 @@ starts-here-requires : tie.Need-starts-here-requires
 starts-here-requires c κs = search needs
 
 before-requires : tie.Need-before-requires
-before-requires c κs = search needs
+before-requires c κs = search (at-within, text-fits)
 
 step-requires : tie.Need-step-requires
-step-requires c κs = search fine-checked
+step-requires c κs = search at-ready
 
 returns : tie.Need-returns
 returns c = search given-in

@@ -8,19 +8,16 @@ use Rattle.plan.proofs.count.Statement.{statement}
 use Rattle.plan.proofs.count.Tie as tie
 
 abbrev Inv-loop : tie.InvT-loop
-Inv-loop text starts continues emoji on n₀ scan₀ n scan = Counted (lent starts continues emoji) text on n scan
+Inv-loop text starts continues emoji on n₀ at₀ here₀ n at here = Counted (lent starts continues emoji) text on n at here
 
 abbrev μ-loop : tie.MeasureT-loop
-μ-loop text starts continues emoji on n₀ scan₀ n scan = length (chars (drop (scan .next) text))
-
-start-requires : tie.Need-start-requires Inv-loop μ-loop
-start-requires c κs = search needs
+μ-loop text starts continues emoji on n₀ at₀ here₀ n at here = length (chars (drop at text))
 
 loop-holds : tie.Need-loop-holds Inv-loop μ-loop
 loop-holds c = search counted-none
 
-step-requires : tie.Need-step-requires Inv-loop μ-loop
-step-requires c κs = search needs
+bare-token-requires : tie.Need-bare-token-requires Inv-loop μ-loop
+bare-token-requires c κs = search needs
 
 add-n : tie.Need-add-n Inv-loop μ-loop
 add-n c = search count-fits
@@ -37,4 +34,4 @@ returns c = search counted-all
 pub count-spec : {M : Type 1} → statement M
 count-spec =
     tie.close
-    (tie.spec Inv-loop μ-loop start-requires loop-holds step-requires add-n loop-less loop-again returns)
+    (tie.spec Inv-loop μ-loop loop-holds bare-token-requires add-n loop-less loop-again returns)
