@@ -11,9 +11,8 @@ use Rattle.text.specs.Position.{onBoundary}
 use Rattle.token.specs.Lists.{Lists}
 use Rattle.token.specs.Names.{'newline'}
 use Rattle.token.specs.Trivia.{isTrivia}
-use Rattle.lexer.specs.declared.Scan.{Scan}
-use Rattle.lexer.specs.Scans.{scanAt}
-use Rattle.lexer.specs.Steps.{beforeOf, nextOf}
+use Rattle.lexer.specs.declared.Bare.{Bare}
+use Rattle.lexer.specs.Scans.{bareAt}
 use Rattle.lexer.proofs.Walks.{begins-on}
 use Rattle.puts.specs.Put.{laid, Put}
 use Rattle.puts.proofs.Puts.{put-take, put-drop, put-length, kept-on}
@@ -78,10 +77,7 @@ module _ {L : Lists} {s before out : List ℕ} {n at : ℕ} {gap : Bool} (m : La
       let k : n ≡ length (keyOf L s) = sym (length-take-le n out (m .within)) ∙ ap length t in
       sym (take-append-drop n out) ∙ ap (λ (l : List ℕ). l ++ drop n out) t ∙ ap (λ (l : List ℕ). keyOf L s ++ l) (m .kept) ∙ ap (λ (j : ℕ). keyOf L s ++ drop j before) k
 
-  module _ {o x : Scan} {t : Bool} (ready : Writing L s before) (l : at < length s) (h : o ≡ beforeOf at false) (y : x ≡ nextOf L s o) (q : t ≡ isTrivia (x .token .kind)) where
-    e : x ≡ scanAt L s at false
-    e = y ∙ ap (nextOf L s) h
-
+  module _ {x : Bare} {t : Bool} (ready : Writing L s before) (l : at < length s) (e : x ≡ bareAt L s at false) (q : t ≡ isTrivia (x .kind)) where
     pub laid-less : length (chars (drop (x .next) s)) < length (chars (drop at s))
     laid-less = less-left L s at (ready .checked .well) (m .edged) l e
 

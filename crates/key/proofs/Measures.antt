@@ -11,10 +11,9 @@ use Rattle.text.specs.Chars.{chars, WellFormed}
 use Rattle.text.specs.Position.{onBoundary}
 use Rattle.token.specs.Lists.{Lists}
 use Rattle.token.specs.Trivia.{isTrivia}
-use Rattle.lexer.specs.declared.Scan.{Scan}
+use Rattle.lexer.specs.declared.Bare.{Bare}
 use Rattle.lexer.specs.Checked.{Checked}
-use Rattle.lexer.specs.Scans.{scanAt, recordsFrom}
-use Rattle.lexer.specs.Steps.{beforeOf, nextOf}
+use Rattle.lexer.specs.Scans.{bareAt, recordsFrom}
 use Rattle.lexer.proofs.Walks.{begins-on}
 use Rattle.token.specs.Broken.{isBroken}
 use Rattle.canon.specs.Keyable.{firstBroken, brokenAt}
@@ -56,15 +55,12 @@ module _ {L : Lists} {s : List ℕ} {n at : ℕ} {gap : Bool} (m : Measured L s 
       let k : n ≡ length (keyOf L s) = omega (arith, m .total, ap length (key-past L s gap at h)) in
       ap Bytes k ∙ ap (λ (p : find.Place). needFor p (length (keyOf L s))) b
 
-  module _ {o x : Scan} (ready : Checked s L) (l : at < length s) (h : o ≡ beforeOf at false) (y : x ≡ nextOf L s o) where
+  module _ {x : Bare} (ready : Checked s L) (l : at < length s) (e : x ≡ bareAt L s at false) where
     w : WellFormed s
     w = ready .well
 
-    e : x ≡ scanAt L s at false
-    e = y ∙ ap (nextOf L s) h
-
     -- a broken token
-    pub broken-here : {b : Bool} → b ≡ isBroken (x .token .kind) → b ≡ true → Mending at ≡ needOf L s
+    pub broken-here : {b : Bool} → b ≡ isBroken (x .kind) → b ≡ true → Mending at ≡ needOf L s
     broken-here q k =
         ap (λ (p : find.Place). needFor p (length (keyOf L s)))
         (sym (ap (λ (t : Bool). pick t (find.at at) (firstBroken (recordsFrom L s (x .next) false))) (sym q ∙ k)) ∙ sym (broken-step L s at w (m .edged) l e) ∙ m .broken)
@@ -72,19 +68,19 @@ module _ {L : Lists} {s : List ℕ} {n at : ℕ} {gap : Bool} (m : Measured L s 
     pub measured-less : length (chars (drop (x .next) s)) < length (chars (drop at s))
     measured-less = less-left L s at w (m .edged) l e
 
-    module _ {t : Bool} {p : ℕ} (q : t ≡ isTrivia (x .token .kind)) (r : p ≡ pieceBytes t gap (x .token .len)) where
-      long : p ≡ pieceBytes (isTrivia (x .token .kind)) gap (x .next - at)
+    module _ {t : Bool} {p : ℕ} (q : t ≡ isTrivia (x .kind)) (r : p ≡ pieceBytes t gap (x .len)) where
+      long : p ≡ pieceBytes (isTrivia (x .kind)) gap (x .next - at)
       long =
-          let k : x .token .len ≡ x .next - at = omega (arith, ends-there L s at w (m .edged) l e) in
-          r ∙ ap (λ (u : Bool). pieceBytes u gap (x .token .len)) q ∙ ap (pieceBytes (isTrivia (x .token .kind)) gap) k
+          let k : x .len ≡ x .next - at = omega (arith, ends-there L s at w (m .edged) l e) in
+          r ∙ ap (λ (u : Bool). pieceBytes u gap (x .len)) q ∙ ap (pieceBytes (isTrivia (x .kind)) gap) k
 
-      onward : (n + p) + length (keyFrom L s (isTrivia (x .token .kind)) (x .next)) ≡ length (keyOf L s)
+      onward : (n + p) + length (keyFrom L s (isTrivia (x .kind)) (x .next)) ≡ length (keyOf L s)
       onward = omega (arith, m .total, long, piece-here L s at w (m .edged) l e gap)
 
       pub measure-fits : n + p < 18446744073709551616
       measure-fits = omega (arith, ready .fits, onward, key-short L s)
 
-      pub measured-on : {b : Bool} → b ≡ isBroken (x .token .kind) → b ≡ false → Measured L s (n + p) (x .next) t
+      pub measured-on : {b : Bool} → b ≡ isBroken (x .kind) → b ≡ false → Measured L s (n + p) (x .next) t
       measured-on f k = record {
         edged = next-edged L s at w (m .edged) l e;
         total = ap (λ (u : Bool). (n + p) + length (keyFrom L s u (x .next))) q ∙ onward;

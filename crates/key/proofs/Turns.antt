@@ -8,21 +8,16 @@ use lib.Seq.{length-take-le}
 use native.Mathlib.Omega.{arith}
 use Rattle.basics.specs.Choice.{pick}
 use Rattle.eaters.specs.Find as find
-use Rattle.text.specs.Chars.{chars, size, WellFormed}
+use Rattle.text.specs.Chars.{chars, WellFormed}
 use Rattle.text.specs.Position.{onBoundary}
-use Rattle.text.proofs.Positions.{boundary-parts}
-use Rattle.text.proofs.Texts.{size-chars}
 use Rattle.token.specs.declared.Token.{Token}
 use Rattle.token.specs.declared.TokenKind.{TokenKind}
 use Rattle.token.specs.Lists.{Lists}
 use Rattle.token.specs.Trivia.{isTrivia}
-use Rattle.token.proofs.Cover.{off-stays, size-append}
-use Rattle.lexer.specs.declared.Scan.{Scan}
-use Rattle.lexer.specs.Scans.{scanAt, recordsFrom}
-use Rattle.lexer.specs.Steps.{beforeOf}
-use Rattle.lexer.proofs.Records.{step-records}
-use Rattle.lexer.proofs.Walks as walks
-use Rattle.lexer.proofs.Walks.{char-there, records-end, begins-there, fewer}
+use Rattle.token.proofs.Cover.{off-stays}
+use Rattle.lexer.specs.declared.Bare.{Bare}
+use Rattle.lexer.specs.Scans.{bareAt, inPlace, recordsFrom}
+use Rattle.lexer.proofs.Walks.{char-there, end-from, ends-past, past-edged, past-inside, records-on, fewer-left}
 use Rattle.token.specs.Broken.{isBroken}
 use Rattle.canon.specs.Keyable.{firstBroken}
 use Rattle.canon.specs.Meaning as meaning
@@ -67,63 +62,55 @@ keyFrom L s g at = written (left g (itemsOf s (recordsFrom L s at false)))
 -- past the end there is nothing
 pub key-past : (L : Lists) (s : List ℕ) (g : Bool) (at : ℕ) → length s ≤ at → keyFrom L s g at ≡ []
 key-past L s g at h =
-    ap (λ (ts : List Token). written (left g (itemsOf s ts))) (records-end L s (beforeOf at false) h) ∙ ap written (left-none g)
+    ap (λ (ts : List Token). written (left g (itemsOf s ts))) (end-from L s at false h) ∙ ap written (left-none g)
 
 pub broken-past : (L : Lists) (s : List ℕ) (at : ℕ) → length s ≤ at → firstBroken (recordsFrom L s at false) ≡ find.nowhere
-broken-past L s at h = ap firstBroken (records-end L s (beforeOf at false) h)
+broken-past L s at h = ap firstBroken (end-from L s at false h)
 
--- A STEP at a boundary before the end
+-- A TOKEN at a boundary before the end
 module _ (L : Lists) (s : List ℕ) (at : ℕ) (w : WellFormed s) (b : onBoundary s at ≡ true) (l : at < length s) where
-  stepped : recordsFrom L s at false ≡ scanAt L s at false .token ∷ recordsFrom L s (scanAt L s at false .next) false
-  unfolding scanAt
-  stepped =
-      let t = char-there s at w b l in
-      step-records L s at false (t .0) (t .1) (t .2)
-      ∙ ap (λ (o : Bool). scanAt L s at false .token ∷ recordsFrom L s (scanAt L s at false .next) o) (off-stays L (chars (drop at s)))
+  module _ {x : Bare} (e : x ≡ bareAt L s at false) where
+    stays-off : x .on ≡ false
+    unfolding bareAt
+    stays-off = ap (λ (y : Bare). y .on) e ∙ off-stays L (chars (drop at s))
 
-  module _ {x : Scan} (e : x ≡ scanAt L s at false) where
-    records-step : recordsFrom L s at false ≡ x .token ∷ recordsFrom L s (x .next) false
-    records-step = subst (λ (y : Scan). recordsFrom L s at false ≡ y .token ∷ recordsFrom L s (y .next) false) (sym e) stepped
+    records-step : recordsFrom L s at false ≡ inPlace s at x ∷ recordsFrom L s (x .next) false
+    records-step = records-on L s at false e (char-there s at w b l) ∙ ap (λ (o : Bool). inPlace s at x ∷ recordsFrom L s (x .next) o) stays-off
 
-    starts-here : x .token .start ≡ at
-    starts-here = begins-there L s (beforeOf at false) e
-
-    pub ends-there : x .next ≡ at + x .token .len
-    ends-there = walks.ends-there L s (beforeOf at false) e
+    pub ends-there : x .next ≡ at + x .len
+    ends-there = ends-past L s at false e
 
     -- the token's bytes are the text's from here to the next position
-    own-bytes : meaning.bytesOf s (x .token) ≡ take (x .next - at) (drop at s)
+    own-bytes : meaning.bytesOf s (inPlace s at x) ≡ take (x .next - at) (drop at s)
     own-bytes =
-        let n : x .token .len ≡ x .next - at = omega (arith, ends-there) in
-        ap (λ (k : ℕ). take (x .token .len) (drop k s)) starts-here ∙ ap (λ (k : ℕ). take k (drop at s)) n
+        let n : x .len ≡ x .next - at = omega (arith, ends-there) in
+        ap (λ (k : ℕ). take k (drop at s)) n
 
-    pub key-step : (g : Bool) → keyFrom L s g at ≡ piece (isTrivia (x .token .kind)) g (take (x .next - at) (drop at s)) ++ keyFrom L s (isTrivia (x .token .kind)) (x .next)
+    pub key-step : (g : Bool) → keyFrom L s g at ≡ piece (isTrivia (x .kind)) g (take (x .next - at) (drop at s)) ++ keyFrom L s (isTrivia (x .kind)) (x .next)
     key-step g =
         ap (λ (ts : List Token). written (left g (itemsOf s ts))) records-step
-        ∙ one-left (isTrivia (x .token .kind)) g (x .token .kind) (meaning.bytesOf s (x .token)) (itemsOf s (recordsFrom L s (x .next) false))
-        ∙ ap (λ (bs : List ℕ). piece (isTrivia (x .token .kind)) g bs ++ keyFrom L s (isTrivia (x .token .kind)) (x .next)) own-bytes
+        ∙ one-left (isTrivia (x .kind)) g (x .kind) (meaning.bytesOf s (inPlace s at x)) (itemsOf s (recordsFrom L s (x .next) false))
+        ∙ ap (λ (bs : List ℕ). piece (isTrivia (x .kind)) g bs ++ keyFrom L s (isTrivia (x .kind)) (x .next)) own-bytes
 
-    pub broken-step : firstBroken (recordsFrom L s at false) ≡ pick (isBroken (x .token .kind)) (find.at at) (firstBroken (recordsFrom L s (x .next) false))
-    broken-step = ap firstBroken records-step ∙ ap (λ (k : ℕ). pick (isBroken (x .token .kind)) (find.at k) (firstBroken (recordsFrom L s (x .next) false))) starts-here
+    pub broken-step : firstBroken (recordsFrom L s at false) ≡ pick (isBroken (x .kind)) (find.at at) (firstBroken (recordsFrom L s (x .next) false))
+    broken-step = ap firstBroken records-step
 
     pub next-edged : onBoundary s (x .next) ≡ true
-    next-edged = walks.next-edged L s (beforeOf at false) e b
+    next-edged = past-edged L s at false e b
 
     -- it ends in the text
     pub ends-inside : x .next ≤ length s
-    ends-inside =
-        let p = boundary-parts s (x .next) next-edged in
-        omega (arith, p .bytes, ap size (p .joined), size-append (p .before) (chars (drop (x .next) s)), size-chars s)
+    ends-inside = past-inside L s at false e (omega (arith, l))
 
     -- as long as its record says
     own-long : length (take (x .next - at) (drop at s)) ≡ x .next - at
     own-long = length-take-le (x .next - at) (drop at s) (omega (arith, ends-inside, length-drop at s))
 
-    pub piece-here : (g : Bool) → length (keyFrom L s g at) ≡ pieceBytes (isTrivia (x .token .kind)) g (x .next - at) + length (keyFrom L s (isTrivia (x .token .kind)) (x .next))
+    pub piece-here : (g : Bool) → length (keyFrom L s g at) ≡ pieceBytes (isTrivia (x .kind)) g (x .next - at) + length (keyFrom L s (isTrivia (x .kind)) (x .next))
     piece-here g =
-        let t = isTrivia (x .token .kind) in
+        let t = isTrivia (x .kind) in
         ap length (key-step g) ∙ length-append (piece t g (take (x .next - at) (drop at s))) (keyFrom L s t (x .next))
         ∙ ap (λ (k : ℕ). k + length (keyFrom L s t (x .next))) (piece-long t g (take (x .next - at) (drop at s)) ∙ ap (pieceBytes t g) own-long)
 
     pub less-left : length (chars (drop (x .next) s)) < length (chars (drop at s))
-    less-left = fewer L s (beforeOf at false) e (char-there s at w b l)
+    less-left = fewer-left L s at false e (char-there s at w b l)

@@ -16,11 +16,8 @@ abbrev μ-loop : tie.MeasureT-loop
 loop-holds : tie.Need-loop-holds Inv-loop μ-loop
 loop-holds c = measured-none _ _
 
-before-requires : tie.Need-before-requires Inv-loop μ-loop
-before-requires c κs = search needs
-
-step-requires : tie.Need-step-requires Inv-loop μ-loop
-step-requires c κs = search needs
+bare-token-requires : tie.Need-bare-token-requires Inv-loop μ-loop
+bare-token-requires c κs = search needs
 
 is-broken-requires : tie.Need-is-broken-requires Inv-loop μ-loop
 is-broken-requires c κs = search needs
@@ -56,8 +53,7 @@ measure-spec =
     Inv-loop
     μ-loop
     loop-holds
-    before-requires
-    step-requires
+    bare-token-requires
     is-broken-requires
     returns
     is-trivia-requires

@@ -16,11 +16,8 @@ abbrev μ-loop : tie.MeasureT-loop
 loop-holds : tie.Need-loop-holds Inv-loop μ-loop
 loop-holds c = laying-none _ _ _
 
-before-requires : tie.Need-before-requires Inv-loop μ-loop
-before-requires c κs = search needs
-
-step-requires : tie.Need-step-requires Inv-loop μ-loop
-step-requires c κs = search needs
+bare-token-requires : tie.Need-bare-token-requires Inv-loop μ-loop
+bare-token-requires c κs = search needs
 
 is-trivia-requires : tie.Need-is-trivia-requires Inv-loop μ-loop
 is-trivia-requires c κs = search needs
@@ -47,8 +44,7 @@ write-spec =
     Inv-loop
     μ-loop
     loop-holds
-    before-requires
-    step-requires
+    bare-token-requires
     is-trivia-requires
     put-piece-requires
     loop-less

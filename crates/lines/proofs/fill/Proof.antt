@@ -8,13 +8,10 @@ use Rattle.lines.proofs.fill.Statement.{statement}
 use Rattle.lines.proofs.fill.Tie as tie
 
 abbrev Inv-loop : tie.InvT-loop
-Inv-loop text starts continues emoji at out₀ scan₀ used₀ out scan used = Filling (lent starts continues emoji) text at out₀ out scan used
+Inv-loop text starts continues emoji at out₀ next₀ used₀ out next used = Filling (lent starts continues emoji) text at out₀ out next used
 
 abbrev μ-loop : tie.MeasureT-loop
-μ-loop text starts continues emoji at out₀ scan₀ used₀ out scan used = length (chars (drop (scan .next) text))
-
-before-requires : tie.Need-before-requires Inv-loop μ-loop
-before-requires c κs = search needs
+μ-loop text starts continues emoji at out₀ next₀ used₀ out next used = length (chars (drop next text))
 
 loop-holds : tie.Need-loop-holds Inv-loop μ-loop
 loop-holds c = search filling-starts
@@ -22,8 +19,8 @@ loop-holds c = search filling-starts
 sub-loop : tie.Need-sub-loop Inv-loop μ-loop
 sub-loop c = search needs
 
-step-requires : tie.Need-step-requires Inv-loop μ-loop
-step-requires c κs = search needs
+bare-token-requires : tie.Need-bare-token-requires Inv-loop μ-loop
+bare-token-requires c κs = search needs
 
 put-line-requires : tie.Need-put-line-requires Inv-loop μ-loop
 put-line-requires c κs = search needs
@@ -44,7 +41,7 @@ same-length-2 : tie.Need-same-length-2 Inv-loop μ-loop
 same-length-2 c = search needs
 
 returns-2 : tie.Need-returns-2 Inv-loop μ-loop
-returns-2 c = search end-out
+returns-2 c = search (end-out (c .before .before .before .before .loop .inv))
 
 pub fill-spec : {M : Type 1} → statement M
 fill-spec =
@@ -52,10 +49,9 @@ fill-spec =
     (tie.spec
     Inv-loop
     μ-loop
-    before-requires
     loop-holds
     sub-loop
-    step-requires
+    bare-token-requires
     put-line-requires
     loop-less
     loop-again
