@@ -21,7 +21,7 @@ use Rattle.plan.specs.declared.ListAnswer.the-variants.{Listed, Slots, Refused}
 use Rattle.plan.specs.declared.Plan.{Plan}
 use Rattle.plan.specs.Answers.{listAnswer}
 use Rattle.plan.specs.Plans.{planOf}
-use Rattle.slots.specs.Numbers.{numbersOf}
+use Rattle.slots.specs.Numbers.{width, numbersOf}
 use Rattle.slots.specs.Fills.{Filling, FilledSlots}
 use Rattle.slots.specs.Answers.{Slotted}
 
@@ -46,19 +46,19 @@ roomy total slots n verdict.Fine true q e = record { fine = refl; room = leb-tru
 roomy total slots n verdict.Fine false q e = absurd (true≢false (sym (ap isListed e)))
 roomy total slots n (verdict.Refused bad) t q e = absurd (true≢false (sym (ap isListed e)))
 
-module _ (limit : ℕ) (s : List ℕ) (L : Lists) (on : Bool) (before : List ℕ) {p : Plan} (e : p ≡ planOf limit s L on (length before / 4)) where
-  answered : p .answer ≡ listAnswer limit s L on (length before / 4)
+module _ (limit : ℕ) (s : List ℕ) (L : Lists) (on : Bool) (before : List ℕ) {p : Plan} (e : p ≡ planOf limit s L on (length before / width)) where
+  answered : p .answer ≡ listAnswer limit s L on (length before / width)
   answered = ap (λ (q : Plan). q .answer) e
 
   module _ {n : ℕ} (k : p .answer ≡ Listed n) where
-    done : Room (tokenVerdict limit s L) (length (records L on s)) (length before / 4) n
-    done = roomy (length (records L on s)) (length before / 4) n (tokenVerdict limit s L) (leb (length (records L on s)) (length before / 4)) refl (sym answered ∙ k)
+    done : Room (tokenVerdict limit s L) (length (records L on s)) (length before / width) n
+    done = roomy (length (records L on s)) (length before / width) n (tokenVerdict limit s L) (leb (length (records L on s)) (length before / width)) refl (sym answered ∙ k)
 
     pub fill-ready : Filling L s on before
     fill-ready = record { checked = fine-checked limit s L refl (done .fine); room = omega (arith, done .room) }
 
     pub listed-in : {after : List ℕ} → FilledSlots L s on before after → Slotted limit s L on before after (Listed n)
-    listed-in w = record { answer = sym k ∙ answered; holds = w ∙ ap (λ (j : ℕ). numbersOf (records L on s) ++ drop (4 * j) before) (done .same) }
+    listed-in w = record { answer = sym k ∙ answered; holds = w ∙ ap (λ (j : ℕ). numbersOf (records L on s) ++ drop (width * j) before) (done .same) }
 
   pub slots-in : {n : ℕ} → p .answer ≡ Slots n → Slotted limit s L on before before (Slots n)
   slots-in k = record { answer = sym k ∙ answered; holds = refl }

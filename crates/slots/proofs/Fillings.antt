@@ -12,30 +12,32 @@ use Rattle.token.specs.Lists.{Lists}
 use Rattle.token.specs.Tokens.{records}
 use Rattle.lexer.specs.declared.Scan.{Scan}
 use Rattle.lexer.specs.Steps.{startOf, nextOf, recordsPast}
-use Rattle.lexer.proofs.Walks.{begins-on, Char, char-there, records-end, begins-there, next-edged, next-records, fewer}
+use Rattle.lexer.specs.Ready.{Ready}
+use Rattle.lexer.proofs.Walks.{begins-on, Char, char-there, records-end, begins-there, next-edged, next-records, fewer, next-ready, start-ready}
 use Rattle.puts.specs.Put.{Put}
 use Rattle.puts.proofs.Joining.{Joining, joining-none, joined-room, joined-on, joined-long, joined-all}
-use Rattle.slots.specs.Numbers.{fourOf, numbersOf}
+use Rattle.slots.specs.Numbers.{width, slotOf, numbersOf}
 use Rattle.slots.specs.Fills.{TokenFits, Filling, FilledSlots}
 
--- four numbers a token
-pub numbers-long : (ts : List Token) → length (numbersOf ts) ≡ 4 * length ts
+-- so many numbers a token
+pub numbers-long : (ts : List Token) → length (numbersOf ts) ≡ width * length ts
 numbers-long [] = refl
-numbers-long (t ∷ ts) = omega (arith, length-append (fourOf t) (numbersOf ts), numbers-long ts)
+numbers-long (t ∷ ts) = omega (arith, length-append (slotOf t) (numbersOf ts), numbers-long ts)
 
 -- THE NUMBERS SO FAR: the position is on a boundary; those put and those of the tokens from there on are the text's
 pub record Slotting (L : Lists) (s : List ℕ) (on : Bool) (before out : List ℕ) (n : ℕ) (c : Scan) : Type 0 where
   pub edged : onBoundary s (c .next) ≡ true
-  pub joined : Joining fourOf (numbersOf (records L on s)) before out n (recordsPast L s c)
+  pub ready : Ready s L c
+  pub joined : Joining slotOf (numbersOf (records L on s)) before out n (recordsPast L s c)
 
-pub slotting-none : {L : Lists} {s : List ℕ} {on : Bool} {before : List ℕ} {c : Scan} → c ≡ startOf on → Slotting L s on before before 0 c
-slotting-none {L} {s} {on} {before} e = rw e (record { edged = begins-on (chars s); joined = joining-none fourOf before (records L on s) })
+pub slotting-none : {L : Lists} {s : List ℕ} {on : Bool} {before : List ℕ} {c : Scan} → Filling L s on before → c ≡ startOf on → Slotting L s on before before 0 c
+slotting-none {L} {s} {on} {before} f e = rw e (record { edged = begins-on (chars s); ready = start-ready {on = on} (f .checked) refl; joined = joining-none slotOf before (records L on s) })
 
 module _ {L : Lists} {s : List ℕ} {on : Bool} {before out : List ℕ} {n : ℕ} {c : Scan} (m : Slotting L s on before out n c) where
   -- the end
   pub slotted-all : length s ≤ c .next → FilledSlots L s on before out
   slotted-all h =
-      let none : Joining fourOf (numbersOf (records L on s)) before out n [] = rw (records-end L s c h) at (m .joined) in
+      let none : Joining slotOf (numbersOf (records L on s)) before out n [] = rw (records-end L s c h) at (m .joined) in
       joined-all none ∙ ap (λ (j : ℕ). numbersOf (records L on s) ++ drop j before) (joined-long none ∙ numbers-long (records L on s))
 
   module _ {x : Scan} (ready : Filling L s on before) (l : c .next < length s) (e : x ≡ nextOf L s c) where
@@ -43,7 +45,7 @@ module _ {L : Lists} {s : List ℕ} {on : Bool} {before out : List ℕ} {n : ℕ
     there = char-there s (c .next) (ready .checked .well) (m .edged) l
 
     -- the token here, and those past it
-    here : Joining fourOf (numbersOf (records L on s)) before out n (x .token ∷ recordsPast L s x)
+    here : Joining slotOf (numbersOf (records L on s)) before out n (x .token ∷ recordsPast L s x)
     here = rw (next-records L s c e there) at (m .joined)
 
     pub slotted-less : length (chars (drop (x .next) s)) < length (chars (drop (c .next) s))
@@ -55,5 +57,5 @@ module _ {L : Lists} {s : List ℕ} {on : Bool} {before out : List ℕ} {n : ℕ
       narrow = omega (arith, begins-there L s c e, l, ready .checked .fits);
     }
 
-    pub slotted-on : {p : List ℕ} {r : ℕ} → Put (fourOf (x .token)) out n p r → Slotting L s on before p r x
-    slotted-on u = record { edged = next-edged L s c e (m .edged); joined = joined-on here u }
+    pub slotted-on : {p : List ℕ} {r : ℕ} → Put (slotOf (x .token)) out n p r → Slotting L s on before p r x
+    slotted-on u = record { edged = next-edged L s c e (m .edged); ready = next-ready L s c e (m .ready); joined = joined-on here u }

@@ -1,4 +1,4 @@
-pub mod Fours
+pub mod Putting
 pub mod Fillings
 pub mod Calls
 pub mod Answers

@@ -1,5 +1,5 @@
--- `slots::put_token` meets its contract. The codes of the kind, and a start that fits (Fours).
-use Rattle.slots.proofs.Fours.{token-put}
+-- `slots::put_token` meets its contract. The codes of the kind, and a start that fits (Putting).
+use Rattle.slots.proofs.Putting.{token-put}
 use borrow.Author.Needs.{needs}
 use Rattle.slots.proofs.put_token.Statement.{statement}
 use Rattle.slots.proofs.put_token.Tie as tie
@@ -10,11 +10,11 @@ kind-code-requires c κs = search needs
 suffix-of-requires : tie.Need-suffix-of-requires
 suffix-of-requires c κs = search needs
 
-cast-put-four : tie.Need-cast-put-four
-cast-put-four c = search needs
+cast-put-slot : tie.Need-cast-put-slot
+cast-put-slot c = search needs
 
-put-four-requires : tie.Need-put-four-requires
-put-four-requires c κs = search needs
+put-slot-requires : tie.Need-put-slot-requires
+put-slot-requires c κs = search needs
 
 same-length : tie.Need-same-length
 same-length c = search needs
@@ -28,7 +28,7 @@ put-token-spec =
     (tie.spec
     kind-code-requires
     suffix-of-requires
-    cast-put-four
-    put-four-requires
+    cast-put-slot
+    put-slot-requires
     same-length
     returns)

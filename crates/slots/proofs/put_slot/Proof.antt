@@ -1,10 +1,10 @@
--- `slots::put_four` meets its contract. Four stores are four numbers put (Fours).
+-- `slots::put_slot` meets its contract. Each store is a number put (Putting).
 use lib.ListN.{length-set}
 use native.Mathlib.Omega.{arith}
-use Rattle.slots.proofs.Fours.{four-put}
+use Rattle.slots.proofs.Putting.{slot-put}
 use borrow.Author.Needs.{needs}
-use Rattle.slots.proofs.put_four.Statement.{statement}
-use Rattle.slots.proofs.put_four.Tie as tie
+use Rattle.slots.proofs.put_slot.Statement.{statement}
+use Rattle.slots.proofs.put_slot.Tie as tie
 
 mul-slots : tie.Need-mul-slots
 mul-slots c = search needs
@@ -39,6 +39,15 @@ mul-slots-4 c = search needs
 slice-write-slots-4 : tie.Need-slice-write-slots-4
 slice-write-slots-4 c = simp length-set (omega arith)
 
+add-slots-4 : tie.Need-add-slots-4
+add-slots-4 c = search needs
+
+mul-slots-5 : tie.Need-mul-slots-5
+mul-slots-5 c = search needs
+
+slice-write-slots-5 : tie.Need-slice-write-slots-5
+slice-write-slots-5 c = simp length-set (omega arith)
+
 add-result : tie.Need-add-result
 add-result c = search needs
 
@@ -46,10 +55,10 @@ same-length : tie.Need-same-length
 same-length c = search needs
 
 returns : tie.Need-returns
-returns c = search four-put
+returns c = search slot-put
 
-pub put-four-spec : {M : Type 1} → statement M
-put-four-spec =
+pub put-slot-spec : {M : Type 1} → statement M
+put-slot-spec =
     tie.close
     (tie.spec
     mul-slots
@@ -63,6 +72,9 @@ put-four-spec =
     add-slots-3
     mul-slots-4
     slice-write-slots-4
+    add-slots-4
+    mul-slots-5
+    slice-write-slots-5
     add-result
     same-length
     returns)
