@@ -49,8 +49,9 @@ use denote.Triple.Walked.{says, needs, Stays, stay-none, stay-none-slice, stay-s
 use denote.Exit.{yes}
 use Rattle.token.specs.declared.Token.{Token}
 use Rattle.lexer.specs.declared.Scan.{Scan}
-use Rattle.lexer.specs.Checked.{Checked}
 use Rattle.lexer.specs.Steps.{nextOf}
+use Rattle.lexer.specs.Ready.{Ready}
+use Rattle.lexer.proofs.Walks.{next-ready}
 use Rattle.list.proofs.Lent.{Refs, Lfts4, Shares4, bytesOf, listsOf, sv, Lent, Toks, dup, filled, filled-is}
 use Rattle.token.proofs.Token as T
 use Rattle.token.proofs.Token.Laws as T′
@@ -151,7 +152,7 @@ module _ {M : Type 1} (𝓤 : URA M) (H : Heap 𝓤) (A : Atoms 𝓤) (mem : Mem
 module _ {M : Type 1} (𝓤 : URA M) (H : Heap 𝓤) (A : Atoms 𝓤) (W : Given 𝓤 H A) (mem : Memory → SProp 𝓤) (run : Routine → Fun 𝓤) (ks : Lfts4) (κ : Lft) (qs : Shares4) (q : Share)
     (xs : Refs) (s : Scan) (b o : ℕ) (γ : GName) (ys : List Token) (n : ℕ)
     (r₀ : Room u8 (length (now (xs .0)))) (r₁ : Room u32 (length (now (xs .1 .0)))) (r₂ : Room u32 (length (now (xs .1 .1 .0)))) (r₃ : Room u32 (length (now (xs .1 .1 .1))))
-    (s-is : Is S.the-row s (svals s)) (room : Room T.the-row (length ys)) (n-fits : n < 2 ^ 64) (enough : n ≤ length ys) (ready : 1 ≤ n → Checked (bytesOf xs) (listsOf xs)) where
+    (s-is : Is S.the-row s (svals s)) (room : Room T.the-row (length ys)) (n-fits : n < 2 ^ 64) (enough : n ≤ length ys) (ready : 1 ≤ n → Ready (bytesOf xs) (listsOf xs) s) where
   abbrev x : List Token → RefT (List Token)
   x l = record { ptr = (b, o); name = γ; now = l }
 
@@ -210,7 +211,7 @@ module _ {M : Type 1} (𝓤 : URA M) (H : Heap 𝓤) (A : Atoms 𝓤) (W : Given
     abbrev to : Step 𝓤 H A mem run .Ghost
     to = ((κs′, (qs .0, (qs .1 .0, (qs .1 .1 .0, (qs .1 .1 .1, tt)))), tt, passed, (sv (xs .0) ∷ [], (sv (xs .1 .0) ∷ [], (sv (xs .1 .1 .0) ∷ [], (sv (xs .1 .1 .1) ∷ [], (svals c, tt)))))), tt)
 
-    asked : Is S.the-row c (svals c) → Checked (bytesOf xs) (listsOf xs) → ent 𝓤 (⋆ 𝓤 H A (‵ (Lent ks xs) ∷ Toks ks qs ∷ [])) (Step 𝓤 H A mem run .pre to)
+    asked : Is S.the-row c (svals c) → Ready (bytesOf xs) (listsOf xs) c → ent 𝓤 (⋆ 𝓤 H A (‵ (Lent ks xs) ∷ Toks ks qs ∷ [])) (Step 𝓤 H A mem run .pre to)
     asked is ok =
         qed W (‵ (Lent ks xs) ∷ Toks ks qs ∷ []) ∵ says ! ok $ move ! (1 ∷ 0 ∷ []) $ frame ! $
         nothing ! $ owned ! S.the-row (Is S.the-row) (LL.makes S.the-type S′.the-plain 𝓤 H A) c _ is $ fjoin ! $
@@ -221,7 +222,7 @@ module _ {M : Type 1} (𝓤 : URA M) (H : Heap 𝓤) (A : Atoms 𝓤) (W : Given
 
   -- ---- the loop
   abbrev Facts : ℕ → ℕ → Scan → List Token → Type 0
-  Facts left i c zs = (i + left ≡ n) × ((length zs ≡ length ys) × ((filled (listsOf xs) (bytesOf xs) left i c zs ≡ final) × Is S.the-row c (svals c)))
+  Facts left i c zs = (i + left ≡ n) × ((length zs ≡ length ys) × ((filled (listsOf xs) (bytesOf xs) left i c zs ≡ final) × (Is S.the-row c (svals c) × (1 ≤ n → Ready (bytesOf xs) (listsOf xs) c))))
 
   -- where a turn begins: the records left, the index, the scan, and the list so far
   abbrev St : Type 0
@@ -276,7 +277,7 @@ module _ {M : Type 1} (𝓤 : URA M) (H : Heap 𝓤) (A : Atoms 𝓤) (W : Given
         -- the call: of what is lent a copy is kept
         move ! (3 ∷ []) $ use1 W (‵ (Lent ks xs) ⊛ ‵ (Lent ks xs)) (dup 𝓤 H A W ks xs) $ split ! $
         -- [what is lent; again; obs; the borrow; κ; the tokens; _9; _8; …]
-        move ! (0 ∷ 5 ∷ []) $ use2 W (raw (Step 𝓤 H A mem run .pre (to c))) (asked c (f .1 .1 .1) (ready (some-left i n less))) $
+        move ! (0 ∷ 5 ∷ []) $ use2 W (raw (Step 𝓤 H A mem run .pre (to c))) (asked c (f .1 .1 .1 .0) (f .1 .1 .1 .1 (some-left i n less))) $
         -- [what is asked; what is lent; obs; the borrow; κ; _9; _8; _10; _11; _12; _1; _2; _3; _4; …]
         calls-at ! (fmOf 𝓤 H (W .laws) 𝓣) (Step 𝓤 H A mem run) known (to c)
         (and-then ! (load ! (from ! (stop !)) (look ! 10 refl)) (and-then ! (load ! (from ! (stop !)) (look ! 11 refl)) (and-then ! (load ! (from ! (stop !)) (look ! 12 refl)) (and-then ! (load ! (from ! (stop !)) (look ! 13 refl)) (and-then ! (load ! (from ! (stop !)) (look ! 6 refl)) (no-more !)))))) (λ u.
@@ -299,7 +300,7 @@ module _ {M : Type 1} (𝓤 : URA M) (H : Heap 𝓤) (A : Atoms 𝓤) (W : Given
         assigns-last ! (bin ! (load ! (from ! (stop !)) (look ! 5 refl)) (lit ! tt) (record { fits = next-fits i n less n-fits })) (from ! (stop !)) (store ! 5 refl (tt, record { fits = next-fits i n less n-fits })) $
         rewrite ! 5 (λ (j : ℕ). ‵ (fat fullShare word l₉ 0 (vint w64 j))) (one-more i) refl $
         forget ! 7 refl $ forget ! 8 refl $ forget ! 9 refl $
-        again ! Less Inv (suc k, i, c, zs, f) (k, suc i, d, zs′, (one-less i k n (f .0), (length-set zs i (d .token) ∙ f .1 .0, (f .1 .1 .0, next-is r u e is)))) (omega arith))))))
+        again ! Less Inv (suc k, i, c, zs, f) (k, suc i, d, zs′, (one-less i k n (f .0), (length-set zs i (d .token) ∙ f .1 .0, (f .1 .1 .0, (next-is r u e is, goes-on))))) (omega arith))))))
       where
         -- the scan past c
         d : Scan
@@ -310,6 +311,9 @@ module _ {M : Type 1} (𝓤 : URA M) (H : Heap 𝓤) (A : Atoms 𝓤) (W : Given
 
         less : i < n
         less = below i k n (f .0)
+
+        goes-on : 1 ≤ n → Ready (bytesOf xs) (listsOf xs) d
+        goes-on h = next-ready (listsOf xs) (bytesOf xs) c refl (f .1 .1 .1 .1 h)
 
         within : i < length zs
         within = subst (λ (m : ℕ). i < m) (sym (f .1 .0)) (lower i n (length ys) less enough)
@@ -353,7 +357,7 @@ module _ {M : Type 1} (𝓤 : URA M) (H : Heap 𝓤) (A : Atoms 𝓤) (W : Given
         assigns ! (of-opd ! (lit ! tt)) (from ! (stop !)) (init ! 6 refl (tt, record { fits = lit< tt })) $
         keep ! (26 ∷ 27 ∷ 28 ∷ 29 ∷ 30 ∷ 6 ∷ 8 ∷ 4 ∷ 2 ∷ 0 ∷ 22 ∷ 20 ∷ 18 ∷ 16 ∷ 12 ∷ 10 ∷ 14 ∷ 24 ∷ 25 ∷ 23 ∷ 21 ∷ 19 ∷ 17 ∷ 15 ∷ 13 ∷ 11 ∷ 9 ∷ 7 ∷ 5 ∷ 3 ∷ 1 ∷ []) $
         first ! $ blocks ! $ loops ! 𝓣 Less Less-wf (Inv 𝓣 known l₀ l₁ l₂ l₃ l₄ l₅ l₆ l₇ l₈ l₉ l₁₀ l₁₁ l₁₂) (λ y. turn-at 𝓣 known l₀ l₁ l₂ l₃ l₄ l₅ l₆ l₇ l₈ l₉ l₁₀ l₁₁ l₁₂ (y .0) (y .1) (y .2) (y .3) (y .4))
-        (n, 0, s, ys, (omega arith, (refl, (refl, s-is)))))))))))))))))
+        (n, 0, s, ys, (omega arith, (refl, (refl, (s-is, ready))))))))))))))))))
       where
         s-typed : Holds (hasTy S′.mir (sval s)) × WT (sval s)
         s-typed = LL.lawful S.the-type S′.the-laws 𝓤 H A W .typed s _ s-is .0
