@@ -51,7 +51,7 @@ module _ (L : Lists) (s : List ℕ) (k : ℕ) where
 pub parts-join : (L : Lists) (s : List ℕ) (at : ℕ) (on : Bool) (n k : ℕ)
     → let r = ranOver L s at on (firstTokens L s at on n) in
     firstTokens L s at on (n + k) ≡ firstTokens L s at on n ++ firstTokens L s (r .next) (r .on) k
-parts-join L s at on n k = parts L s k n (beforeOf at on)
+parts-join L s at on n k = parts L s k n (beforeOf s at on)
 
 -- every step ends on a boundary
 stepped-edged : (L : Lists) (s : List ℕ) (n : ℕ) (c : Scan) → onBoundary s (c .next) ≡ true → onBoundary s (stepped L s n c .next) ≡ true
@@ -60,7 +60,7 @@ stepped-edged L s (suc n) c b = stepped-edged L s n (nextOf L s c) (next-edged L
 
 -- AND THE SECOND is not refused its position
 pub goes-on : (L : Lists) (s : List ℕ) (at : ℕ) (on : Bool) (ts : List Token) → onBoundary s at ≡ true → onBoundary s (ranOver L s at on ts .next) ≡ true
-goes-on L s at on ts b = stepped-edged L s (length ts) (beforeOf at on) b
+goes-on L s at on ts b = stepped-edged L s (length ts) (beforeOf s at on) b
 
 -- FROM THE BEGINNING, with a slot for each, it gives the tokens that the list call gives
 pub gives-all : (L : Lists) (s : List ℕ) (on : Bool) (n : ℕ) → length (records L on s) ≤ n → firstTokens L s 0 on n ≡ records L on s

@@ -48,7 +48,7 @@ offset-case n expected found e p = p ∙ sym (ap (noEndOf n expected found) e)
 
 -- the codes of a kind
 pub given-in : (n : Numbers) (x : Scan) {code suffix : ℕ} → code ≡ kindCode (x .token .kind) → suffix ≡ suffixOf (x .token .kind)
-    → record { number = n .number; beside = n .beside; second = n .second; kind = code; «suffix_start» = suffix; len = x .token .len; start = x .token .start; next = x .next; on = x .on } ≡ givenOut n x
+    → record { number = n .number; beside = n .beside; second = n .second; kind = code; «suffix_start» = suffix; len = x .token .len; start = x .token .start; line = x .token .line; next = x .next; on = x .on } ≡ givenOut n x
 given-in n x e f = rw (e, f)
 
 -- WHAT A CALL SAYS, put out

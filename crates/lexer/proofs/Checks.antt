@@ -29,6 +29,12 @@ use Rattle.lexer.specs.Ready.{Ready}
 use Rattle.lexer.specs.Answers.{tokenVerdict, givenAt, oneToken}
 use Rattle.lexer.proofs.Walks.{before-ready}
 
+-- a boundary lies in the text
+pub edge-within : (s : List ℕ) (at : ℕ) → onBoundary s at ≡ true → at ≤ length s
+edge-within s at b =
+    let q = boundary-parts s at b in
+    omega (arith, q .bytes, sym (ap size (q .joined)), size-append (q .before) (chars (drop at s)), size-chars s)
+
 -- THE VERDICT lets through: the text is within the limit and well-formed, and the lists are good
 module _ (limit : ℕ) (s : List ℕ) (L : Lists) {v : Verdict} (e : v ≡ tokenVerdict limit s L) (k : v ≡ verdict.Fine) where
   lists-fine : first (listVerdict limit 0 (L .starts)) (first (listVerdict limit 1 (L .continues)) (listVerdict limit 2 (L .emoji))) ≡ verdict.Fine
@@ -57,11 +63,9 @@ module _ (limit : ℕ) (s : List ℕ) (L : Lists) {v : Verdict} (e : v ≡ token
     boundary : t ≡ onBoundary s at
     boundary = h ∙ sym (boundary-byte s text-well at)
 
-    -- a position that is a boundary lies in the text, and a step from there is ready
+    -- the position is in the text, and a step from there is ready
     pub at-within : t ≡ true → at ≤ length s
-    at-within p =
-        let q = boundary-parts s at (sym boundary ∙ p) in
-        omega (arith, q .bytes, sym (ap size (q .joined)), size-append (q .before) (chars (drop at s)), size-chars s)
+    at-within p = edge-within s at (sym boundary ∙ p)
 
     pub at-ready : {c : Scan} → t ≡ true → c ≡ beforeOf s at on → Ready s L c
     at-ready p f = before-ready {on = on} fine-checked (at-within p) f

@@ -1,6 +1,6 @@
 -- `exports::put_run` meets its contract. `Running`: the numbers put, followed by those of the tokens that there are slots for, are the run's (Runs).
 use Rattle.token.specs.Lists.{lent}
-use Rattle.exports.proofs.Runs.{Running, running-none, running-fits, running-on, one-less, ran-full, ran-over}
+use Rattle.exports.proofs.Runs.{going-within, Running, running-none, running-fits, running-on, one-less, ran-full, ran-over}
 use borrow.Author.Needs.{needs}
 use Rattle.exports.proofs.put_run.Statement.{statement}
 use Rattle.exports.proofs.put_run.Tie as tie
@@ -12,7 +12,7 @@ abbrev μ-loop : tie.MeasureT-loop
 μ-loop text starts continues emoji at on slots₀ left₀ used₀ scan₀ slots left used scan = left
 
 before-requires : tie.Need-before-requires Inv-loop μ-loop
-before-requires c κs = search needs
+before-requires c κs = search going-within
 
 loop-holds : tie.Need-loop-holds Inv-loop μ-loop
 loop-holds c = search running-none
