@@ -35,7 +35,15 @@ pub fn put_token(slots: &mut [u32], n: usize, token: Token) -> usize
     let kind = token.kind;
     let code = kinds::kind_code(kind);
     let suffix = kinds::suffix_of(kind);
-    put_slot(slots, n, code, suffix, token.len, token.start as u32, token.line)
+    put_slot(
+        slots,
+        n,
+        code,
+        suffix,
+        token.len,
+        token.start as u32,
+        token.line,
+    )
 }
 
 // Writes the numbers of every token of a text that was checked into a run that has room for them.
