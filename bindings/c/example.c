@@ -10,10 +10,10 @@
 #include <string.h>
 #include "lovemudarn.h"
 
-enum { MOST = 65536, RUN = 2 * LOVEMUDARN_MAX_PAIRS, MOST_LISTS = 524288 /* no file of lists has more bytes */ };
+enum { MOST = 65536, RUN = 2 * LOVEMUDARN_MAX_PAIRS, WIDTH = LOVEMUDARN_NUMBERS_OF_A_TOKEN, MOST_LISTS = 524288 /* no file of lists has more bytes */ };
 
 static uint8_t text[MOST + 1], key[MOST], file[MOST_LISTS + 1];
-static uint32_t slots[4 * MOST]; /* n bytes have at most n tokens, each of which takes four numbers */
+static uint32_t slots[WIDTH * MOST]; /* n bytes have at most n tokens */
 static uint32_t starts[RUN], continues[RUN], emoji[RUN];
 static struct lovemudarn_lists_answer has; /* how many numbers the lists have: 0 */
 #define LISTS starts, has.starts, continues, has.continues, emoji, has.emoji
@@ -58,8 +58,9 @@ static int explain(struct lovemudarn_answer a) {
 /* The place in token i of a character past ASCII that only lists that hold more can judge, or n where there is none: one that is an unknown token; or that begins no
  * name by these lists, and stands after a single quote and is not alone before the next, or after r#. */
 static size_t judged(size_t i, size_t n) {
-    uint32_t code = slots[4 * i], suffix_start = slots[4 * i + 1], len = slots[4 * i + 2];
-    size_t start = slots[4 * i + 3], at = n;
+    const uint32_t *token = slots + WIDTH * i;
+    uint32_t code = token[LOVEMUDARN_CODE], suffix_start = token[LOVEMUDARN_SUFFIX_START], len = token[LOVEMUDARN_LEN];
+    size_t start = token[LOVEMUDARN_START], at = n;
     if (LOVEMUDARN_KIND_OF(code) == LOVEMUDARN_KIND_UNKNOWN) {
         at = start;
     } else if (LOVEMUDARN_KIND_OF(code) == LOVEMUDARN_KIND_LITERAL && len > 1) {
@@ -99,7 +100,7 @@ int main(int argc, char **argv) {
     if (a.number != LOVEMUDARN_DONE)
         return explain(a);
     memset(text, ' ', a.beside); /* 0 where there is none */
-    struct lovemudarn_answer tokens = lovemudarn_tokens(text, n, LISTS, false, slots, 4 * (size_t)MOST);
+    struct lovemudarn_answer tokens = lovemudarn_tokens(text, n, LISTS, false, slots, WIDTH * MOST);
     if (tokens.number != LOVEMUDARN_DONE)
         return explain(tokens);
     size_t at = needs_lists(tokens.beside, n);
@@ -113,9 +114,12 @@ int main(int argc, char **argv) {
         return explain(a);
     printf("key, %zu bytes:\n", a.beside);
     fwrite(key, 1, a.beside, stdout);
-    printf("\ntokens, %zu: code, suffix start, length, start\n", tokens.beside);
-    for (size_t i = 0; i < tokens.beside; i++)
-        printf("%u %u %u %u\n", (unsigned)slots[4 * i], (unsigned)slots[4 * i + 1], (unsigned)slots[4 * i + 2], (unsigned)slots[4 * i + 3]);
+    printf("\ntokens, %zu: code, suffix start, length, start, line (counted from 0)\n", tokens.beside);
+    for (size_t i = 0; i < tokens.beside; i++) {
+        const uint32_t *token = slots + WIDTH * i;
+        printf("%u %u %u %u %u\n", (unsigned)token[LOVEMUDARN_CODE], (unsigned)token[LOVEMUDARN_SUFFIX_START], (unsigned)token[LOVEMUDARN_LEN],
+               (unsigned)token[LOVEMUDARN_START], (unsigned)token[LOVEMUDARN_LINE]);
+    }
     if (fflush(stdout) != 0 || ferror(stdout)) {
         fprintf(stderr, "standard output cannot be written\n");
         return 2;

@@ -8,6 +8,9 @@
  *
  * TEXT. The bytes of the text; no 0 ends them, and a byte 0 is a character like others. Positions and lengths count bytes.
  *
+ * LINES. The line of a token is the number of bytes 0A (LF) before its start, so that the first line is line 0. Nothing else ends a line: a CR alone does not,
+ * nor does U+2028. A token that goes on over LFs is in the line in which it starts.
+ *
  * LISTS. `starts`, `continues` and `emoji` are the code points from 0x80 on that start an identifier, go on in one, and are emoji: a low and a high code
  * point in turn, both included. Rules: at most LOVEMUDARN_MAX_PAIRS pairs; an even count of numbers; low <= high <= 0x10FFFF; low >= 0x80; each low above
  * the high before it; no pair covers a surrogate, U+0085, U+200E, U+200F, U+2028 or U+2029. AN EMPTY LIST (count 0) is a good list: then no character from
@@ -41,7 +44,8 @@ extern "C" {
 #define LOVEMUDARN_BAD_LIST 3u     /* a list breaks a rule; beside: the list (0 starts, 1 continues, 2 emoji); second: the index of the pair, of a half
                                       pair too; LOVEMUDARN_MAX_PAIRS where there are more pairs than that */
 #define LOVEMUDARN_BAD_POSITION 4u /* the position is past the end of the text or inside a character; beside: the position */
-#define LOVEMUDARN_FEW_SLOTS 5u    /* the run has fewer slots than the text has tokens; beside: the tokens, each of which needs four numbers */
+#define LOVEMUDARN_FEW_SLOTS 5u    /* the run has fewer slots than the text has tokens; beside: the tokens, each of which needs
+                                      LOVEMUDARN_NUMBERS_OF_A_TOKEN numbers */
 #define LOVEMUDARN_BROKEN_TOKEN 6u /* the text has a broken token, and so no key: a literal that does not end or has no hash count, or a block comment
                                       that does not end; beside: the start of the first */
 #define LOVEMUDARN_SHORT_BUFFER 7u /* the buffer is shorter than the key, or than the file of lists; beside: the bytes of the key or the file. Where lists are
@@ -144,13 +148,14 @@ extern "C" {
 #define LOVEMUDARN_BASE_DECIMAL 2u
 #define LOVEMUDARN_BASE_HEXADECIMAL 3u
 
-/* ---- the four numbers of a token in a run */
+/* ---- the numbers of a token in a run: a slot */
 
-#define LOVEMUDARN_NUMBERS_OF_A_TOKEN 4u
+#define LOVEMUDARN_NUMBERS_OF_A_TOKEN 5u
 #define LOVEMUDARN_CODE 0u         /* the code of its kind */
 #define LOVEMUDARN_SUFFIX_START 1u /* of a literal, where its suffix starts, in bytes from the token's start (its length where it has none); else 0 */
 #define LOVEMUDARN_LEN 2u          /* its bytes */
 #define LOVEMUDARN_START 3u        /* its first byte, in bytes from the text's start */
+#define LOVEMUDARN_LINE 4u         /* the LFs before it, from the text's start on */
 
 /* ---- the cases of the raw check */
 
@@ -176,6 +181,7 @@ struct lovemudarn_token_answer {
     uint32_t suffix_start; /* of a literal; else 0 */
     uint32_t len;
     size_t start;          /* the position that was handed in */
+    uint32_t line;         /* the LFs before it, from the text's start on */
     size_t next;           /* the position past the token */
     bool on;               /* whether frontmatter may stand there */
 };
@@ -239,15 +245,15 @@ struct lovemudarn_token_answer lovemudarn_token(const uint8_t *text, size_t text
                                                 const uint32_t *continues, size_t continues_len, const uint32_t *emoji, size_t emoji_len, size_t at,
                                                 bool on);
 
-/* The tokens of a text, without EOF, in a run of numbers: 1, 3, 2, 5, or 0 with the number of tokens beside it. Token i is slots[4 * i] to
- * slots[4 * i + 3]. `slots_len` counts numbers: it makes slots_len / 4 slots, and n bytes have at most n tokens. */
+/* The tokens of a text, without EOF, in a run of numbers: 1, 3, 2, 5, or 0 with the number of tokens beside it. Where w is LOVEMUDARN_NUMBERS_OF_A_TOKEN, token i
+ * has w numbers from slots[w * i] on. `slots_len` counts numbers: it makes slots_len / w slots, and n bytes have at most n tokens. */
 struct lovemudarn_answer lovemudarn_tokens(const uint8_t *text, size_t text_len, const uint32_t *starts, size_t starts_len, const uint32_t *continues,
                                            size_t continues_len, const uint32_t *emoji, size_t emoji_len, bool on, uint32_t *slots, size_t slots_len);
 
 /* The tokens from a position on, without EOF, as many as the run has slots for: 1, 3, 2, 4, or 0. They are written as lovemudarn_tokens writes them; a start
- * counts from the text's beginning. To go on, hand `next` and `on` back in; the text is at its end where `next` is `text_len`. Two calls, the second from where
- * the first ended, give what one call with the slots of both gives. Each call checks the whole text and the lists first: for a text of n bytes lend 4 * (n / 8 + 256)
- * numbers or more, and at most eight calls go through it, in time that grows as n does. */
+ * and a line count from the text's beginning. To go on, hand `next` and `on` back in; the text is at its end where `next` is `text_len`. Two calls, the second from
+ * where the first ended, give what one call with the slots of both gives. Each call checks the whole text and the lists first: for a text of n bytes lend n / 8 + 256
+ * slots or more, and at most eight calls go through it, in time that grows as n does. */
 struct lovemudarn_run_answer lovemudarn_tokens_from(const uint8_t *text, size_t text_len, const uint32_t *starts, size_t starts_len,
                                                     const uint32_t *continues, size_t continues_len, const uint32_t *emoji, size_t emoji_len, size_t at,
                                                     bool on, uint32_t *slots, size_t slots_len);

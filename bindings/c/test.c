@@ -1,5 +1,5 @@
 /* Calls every export, and compares what comes back with what documents 01 and 02 and the Rust say: every number below is written by hand,
- * but for the header's most pairs of a list, which is held against what the archive refuses.
+ * but for the header's most pairs of a list, which is held against what the archive refuses, and for lines where they are many, which are counted here.
  * It is built without a header of the system; the last line says how many checks there were, and how many failed. */
 #include "lovemudarn.h"
 
@@ -79,7 +79,7 @@ static void test_many(void) {
 }
 
 static void given(const char *what, struct lovemudarn_token_answer a, unsigned long kind, unsigned long suffix, unsigned long len, unsigned long start,
-                  bool on) {
+                  unsigned long line, bool on) {
     same(what, "number", a.number, LOVEMUDARN_DONE);
     same(what, "beside", a.beside, start + len);
     same(what, "second", a.second, on);
@@ -87,6 +87,7 @@ static void given(const char *what, struct lovemudarn_token_answer a, unsigned l
     same(what, "suffix_start", a.suffix_start, suffix);
     same(what, "len", a.len, len);
     same(what, "start", a.start, start);
+    same(what, "line", a.line, line);
     same(what, "next", a.next, start + len);
     same(what, "on", a.on, on);
 }
@@ -99,16 +100,17 @@ static void no_token(const char *what, struct lovemudarn_token_answer a, unsigne
     same(what, "suffix_start", a.suffix_start, 0);
     same(what, "len", a.len, 0);
     same(what, "start", a.start, 0);
+    same(what, "line", a.line, 0);
     same(what, "next", a.next, 0);
     same(what, "on", a.on, 0);
 }
 
 /* the first token of a text; suffix: 0 where it is no literal */
-#define FIRST(s, kind, suffix, len) given(s, lovemudarn_token(TEXT(s), NO_LISTS, 0, false), kind, suffix, len, 0, false)
+#define FIRST(s, kind, suffix, len) given(s, lovemudarn_token(TEXT(s), NO_LISTS, 0, false), kind, suffix, len, 0, 0, false)
 /* the same with good lists */
-#define LISTED(s, kind, len) given(s, lovemudarn_token(TEXT(s), LIST(letters), LIST(letters), LIST(faces), 0, false), kind, 0, len, 0, false)
+#define LISTED(s, kind, len) given(s, lovemudarn_token(TEXT(s), LIST(letters), LIST(letters), LIST(faces), 0, false), kind, 0, len, 0, 0, false)
 /* frontmatter */
-#define FRONT(s, code, len, after) given(s, lovemudarn_token(TEXT(s), NO_LISTS, 0, true), code, 0, len, 0, after)
+#define FRONT(s, code, len, after) given(s, lovemudarn_token(TEXT(s), NO_LISTS, 0, true), code, 0, len, 0, 0, after)
 
 #define LITERAL(literal, detail) (LOVEMUDARN_KIND_LITERAL + 64 * (literal + 16 * (detail)))
 
@@ -209,9 +211,9 @@ static void test_token(void) {
     same("a code", "its detail", LOVEMUDARN_DETAIL_OF(LOVEMUDARN_KIND_BLOCK_COMMENT + 64 * 5), 5);
 
     /* positions */
-    given("a+1 at 1", lovemudarn_token(TEXT("a+1"), NO_LISTS, 1, false), LOVEMUDARN_KIND_PLUS, 0, 1, 1, false);
-    given("a+1 at its end", lovemudarn_token(TEXT("a+1"), NO_LISTS, 3, false), LOVEMUDARN_KIND_EOF, 0, 0, 3, false);
-    given("past a character", lovemudarn_token(TEXT("\303\251 x"), NO_LISTS, 2, true), LOVEMUDARN_KIND_WHITESPACE, 0, 1, 2, true);
+    given("a+1 at 1", lovemudarn_token(TEXT("a+1"), NO_LISTS, 1, false), LOVEMUDARN_KIND_PLUS, 0, 1, 1, 0, false);
+    given("a+1 at its end", lovemudarn_token(TEXT("a+1"), NO_LISTS, 3, false), LOVEMUDARN_KIND_EOF, 0, 0, 3, 0, false);
+    given("past a character", lovemudarn_token(TEXT("\303\251 x"), NO_LISTS, 2, true), LOVEMUDARN_KIND_WHITESPACE, 0, 1, 2, 0, true);
     no_token("past the end", lovemudarn_token(TEXT("a+1"), NO_LISTS, 4, false), LOVEMUDARN_BAD_POSITION, 4, 0);
     no_token("inside a character", lovemudarn_token(TEXT("\303\251"), NO_LISTS, 1, true), LOVEMUDARN_BAD_POSITION, 1, 0);
     no_token("the last position", lovemudarn_token(TEXT(""), NO_LISTS, (size_t)-1, false), LOVEMUDARN_BAD_POSITION, (size_t)-1, 0);
@@ -219,76 +221,82 @@ static void test_token(void) {
     no_token("3 before 2", lovemudarn_token(TEXT("a\377"), NONE, NONE, LIST(meeting), 0, false), LOVEMUDARN_BAD_LIST, LOVEMUDARN_LIST_EMOJI, 1);
 }
 
-/* a run of n numbers, each of them one that no token has in its place */
-static uint32_t run[48];
+/* a run for twelve tokens, each of its numbers one that no token has in its place */
+static uint32_t run[60];
 #define UNTOUCHED 0xA5A5A5A5u
 
 static void fill_run(void) {
-    for (size_t i = 0; i < 48; i += 1) run[i] = UNTOUCHED;
+    for (size_t i = 0; i < 60; i += 1) run[i] = UNTOUCHED;
 }
 
 /* what the run holds: n numbers, and past them what was there */
 static void holds(const char *what, const uint32_t *right, size_t count) {
-    for (size_t i = 0; i < 48; i += 1) same(what, "a number of the run", run[i], i < count ? right[i] : UNTOUCHED);
+    for (size_t i = 0; i < 60; i += 1) same(what, "a number of the run", run[i], i < count ? right[i] : UNTOUCHED);
 }
 
 #define INT_1 LITERAL(LOVEMUDARN_LITERAL_INT, LOVEMUDARN_BASE_DECIMAL)
 
 static void test_tokens(void) {
-    static const uint32_t sum[12] = {
-        LOVEMUDARN_KIND_IDENT, 0, 1, 0, LOVEMUDARN_KIND_PLUS, 0, 1, 1, INT_1, 1, 1, 2,
+    static const uint32_t sum[15] = {
+        LOVEMUDARN_KIND_IDENT, 0, 1, 0, 0, LOVEMUDARN_KIND_PLUS, 0, 1, 1, 0, INT_1, 1, 1, 2, 0,
     };
+    same("a slot", "its numbers", LOVEMUDARN_NUMBERS_OF_A_TOKEN, 5);
+    same("a slot", "the place of the code", LOVEMUDARN_CODE, 0);
+    same("a slot", "the place of the suffix start", LOVEMUDARN_SUFFIX_START, 1);
+    same("a slot", "the place of the length", LOVEMUDARN_LEN, 2);
+    same("a slot", "the place of the start", LOVEMUDARN_START, 3);
+    same("a slot", "the place of the line", LOVEMUDARN_LINE, 4);
     fill_run();
-    answer("a+1", lovemudarn_tokens(TEXT("a+1"), NO_LISTS, false, run, 48), LOVEMUDARN_DONE, 3, 0);
-    holds("a+1", sum, 12);
+    answer("a+1", lovemudarn_tokens(TEXT("a+1"), NO_LISTS, false, run, 60), LOVEMUDARN_DONE, 3, 0);
+    holds("a+1", sum, 15);
     fill_run();
-    answer("a+1, just room", lovemudarn_tokens(TEXT("a+1"), NO_LISTS, false, run, 12), LOVEMUDARN_DONE, 3, 0);
-    holds("a+1, just room", sum, 12);
+    answer("a+1, just room", lovemudarn_tokens(TEXT("a+1"), NO_LISTS, false, run, 15), LOVEMUDARN_DONE, 3, 0);
+    holds("a+1, just room", sum, 15);
     fill_run();
-    answer("a+1, one number short", lovemudarn_tokens(TEXT("a+1"), NO_LISTS, false, run, 11), LOVEMUDARN_FEW_SLOTS, 3, 0);
+    answer("a+1, one number short", lovemudarn_tokens(TEXT("a+1"), NO_LISTS, false, run, 14), LOVEMUDARN_FEW_SLOTS, 3, 0);
     holds("a+1, one number short", sum, 0);
     answer("a+1, no slot", lovemudarn_tokens(TEXT("a+1"), NO_LISTS, false, run, 0), LOVEMUDARN_FEW_SLOTS, 3, 0);
     holds("a+1, no slot", sum, 0);
     answer("nothing, no slot", lovemudarn_tokens(TEXT(""), NO_LISTS, true, run, 0), LOVEMUDARN_DONE, 0, 0);
     holds("nothing, no slot", sum, 0);
     answer("ill-formed, no slot", lovemudarn_tokens(TEXT("a+\377"), NO_LISTS, false, run, 0), LOVEMUDARN_NOT_UTF8, 2, LOVEMUDARN_CAUSE_START);
-    answer("ill-formed", lovemudarn_tokens(TEXT("a+\377"), NO_LISTS, false, run, 48), LOVEMUDARN_NOT_UTF8, 2, LOVEMUDARN_CAUSE_START);
+    answer("ill-formed", lovemudarn_tokens(TEXT("a+\377"), NO_LISTS, false, run, 60), LOVEMUDARN_NOT_UTF8, 2, LOVEMUDARN_CAUSE_START);
     holds("ill-formed", sum, 0);
-    answer("a bad list", lovemudarn_tokens(TEXT("a+\377"), NONE, LIST(low), NONE, false, run, 48), LOVEMUDARN_BAD_LIST, LOVEMUDARN_LIST_CONTINUES, 0);
+    answer("a bad list", lovemudarn_tokens(TEXT("a+\377"), NONE, LIST(low), NONE, false, run, 60), LOVEMUDARN_BAD_LIST, LOVEMUDARN_LIST_CONTINUES, 0);
     holds("a bad list", sum, 0);
 
     /* starts, and the text of document 01's key */
-    static const uint32_t mixed[40] = {
-        LOVEMUDARN_KIND_BLOCK_COMMENT + 64 * 4, 0, 7, 0,
-        LOVEMUDARN_KIND_IDENT, 0, 1, 7,
-        LOVEMUDARN_KIND_WHITESPACE, 0, 1, 8,
-        LOVEMUDARN_KIND_EQ, 0, 1, 9,
-        LOVEMUDARN_KIND_WHITESPACE, 0, 1, 10,
-        INT_1, 1, 1, 11,
-        LOVEMUDARN_KIND_SEMI, 0, 1, 12,
-        LOVEMUDARN_KIND_WHITESPACE, 0, 1, 13,
-        LOVEMUDARN_KIND_LINE_COMMENT, 0, 4, 14,
-        LOVEMUDARN_KIND_WHITESPACE, 0, 1, 18,
+    static const uint32_t mixed[50] = {
+        LOVEMUDARN_KIND_BLOCK_COMMENT + 64 * 4, 0, 7, 0, 0,
+        LOVEMUDARN_KIND_IDENT, 0, 1, 7, 0,
+        LOVEMUDARN_KIND_WHITESPACE, 0, 1, 8, 0,
+        LOVEMUDARN_KIND_EQ, 0, 1, 9, 0,
+        LOVEMUDARN_KIND_WHITESPACE, 0, 1, 10, 0,
+        INT_1, 1, 1, 11, 0,
+        LOVEMUDARN_KIND_SEMI, 0, 1, 12, 0,
+        LOVEMUDARN_KIND_WHITESPACE, 0, 1, 13, 0,
+        LOVEMUDARN_KIND_LINE_COMMENT, 0, 4, 14, 0,
+        LOVEMUDARN_KIND_WHITESPACE, 0, 1, 18, 0,
     };
     fill_run();
-    answer("a mixed text", lovemudarn_tokens(TEXT("/* a */x = 1; // b\n"), NO_LISTS, true, run, 43), LOVEMUDARN_DONE, 10, 0);
-    holds("a mixed text", mixed, 40);
+    answer("a mixed text", lovemudarn_tokens(TEXT("/* a */x = 1; // b\n"), NO_LISTS, true, run, 54), LOVEMUDARN_DONE, 10, 0);
+    holds("a mixed text", mixed, 50);
 
     /* frontmatter, and what stands after it; a suffix that is not at the end */
-    static const uint32_t fronted[12] = {
-        LOVEMUDARN_KIND_FRONTMATTER, 0, 9, 0, LOVEMUDARN_KIND_WHITESPACE, 0, 1, 9, INT_1, 3, 5, 10,
+    static const uint32_t fronted[15] = {
+        LOVEMUDARN_KIND_FRONTMATTER, 0, 9, 0, 0, LOVEMUDARN_KIND_WHITESPACE, 0, 1, 9, 2, INT_1, 3, 5, 10, 3,
     };
     fill_run();
-    answer("frontmatter", lovemudarn_tokens(TEXT("---\nx\n---\n12_u8"), NO_LISTS, true, run, 48), LOVEMUDARN_DONE, 3, 0);
-    holds("frontmatter", fronted, 12);
+    answer("frontmatter", lovemudarn_tokens(TEXT("---\nx\n---\n12_u8"), NO_LISTS, true, run, 60), LOVEMUDARN_DONE, 3, 0);
+    holds("frontmatter", fronted, 15);
     answer("frontmatter off", lovemudarn_tokens(TEXT("---\nx\n---\n12_u8"), NO_LISTS, false, run, 0), LOVEMUDARN_FEW_SLOTS, 11, 0);
     fill_run();
-    static const uint32_t lettered[8] = {
-        LOVEMUDARN_KIND_IDENT, 0, 4, 0, LOVEMUDARN_KIND_UNKNOWN, 0, 4, 4,
+    static const uint32_t lettered[10] = {
+        LOVEMUDARN_KIND_IDENT, 0, 4, 0, 0, LOVEMUDARN_KIND_UNKNOWN, 0, 4, 4, 0,
     };
-    answer("a list's letters", lovemudarn_tokens(TEXT("a\303\251b\360\237\230\200"), LIST(letters), LIST(letters), NONE, false, run, 48), LOVEMUDARN_DONE,
+    answer("a list's letters", lovemudarn_tokens(TEXT("a\303\251b\360\237\230\200"), LIST(letters), LIST(letters), NONE, false, run, 60), LOVEMUDARN_DONE,
            2, 0);
-    holds("a list's letters", lettered, 8);
+    holds("a list's letters", lettered, 10);
 }
 
 static void ran(const char *what, struct lovemudarn_run_answer a, unsigned long number, unsigned long beside, unsigned long second, unsigned long tokens,
@@ -308,36 +316,181 @@ static void ran(const char *what, struct lovemudarn_run_answer a, unsigned long 
 
 static void test_tokens_from(void) {
     /* a text in three parts, each from where the one before it ended; frontmatter may stand after whitespace and nowhere else */
-    static const uint32_t first[4] = {LOVEMUDARN_KIND_WHITESPACE, 0, 1, 0};
-    static const uint32_t second[8] = {LOVEMUDARN_KIND_FRONTMATTER, 0, 9, 1, LOVEMUDARN_KIND_WHITESPACE, 0, 1, 10};
-    static const uint32_t third[12] = {INT_1, 3, 5, 11, LOVEMUDARN_KIND_WHITESPACE, 0, 1, 16, LOVEMUDARN_KIND_IDENT, 0, 1, 17};
+    static const uint32_t first[5] = {LOVEMUDARN_KIND_WHITESPACE, 0, 1, 0, 0};
+    static const uint32_t second[10] = {LOVEMUDARN_KIND_FRONTMATTER, 0, 9, 1, 1, LOVEMUDARN_KIND_WHITESPACE, 0, 1, 10, 3};
+    static const uint32_t third[15] = {INT_1, 3, 5, 11, 4, LOVEMUDARN_KIND_WHITESPACE, 0, 1, 16, 4, LOVEMUDARN_KIND_IDENT, 0, 1, 17, 4};
     fill_run();
-    RAN("from: one slot", lovemudarn_tokens_from(TEXT(FRONTED), NO_LISTS, 0, true, run, 7), 1, 1, true);
-    holds("from: one slot", first, 4);
+    RAN("from: one slot", lovemudarn_tokens_from(TEXT(FRONTED), NO_LISTS, 0, true, run, 9), 1, 1, true);
+    holds("from: one slot", first, 5);
     fill_run();
-    RAN("from: two slots", lovemudarn_tokens_from(TEXT(FRONTED), NO_LISTS, 1, true, run, 8), 2, 11, false);
-    holds("from: two slots", second, 8);
+    RAN("from: two slots", lovemudarn_tokens_from(TEXT(FRONTED), NO_LISTS, 1, true, run, 10), 2, 11, false);
+    holds("from: two slots", second, 10);
     fill_run();
-    RAN("from: more slots than tokens", lovemudarn_tokens_from(TEXT(FRONTED), NO_LISTS, 11, false, run, 48), 3, 18, false);
-    holds("from: more slots than tokens", third, 12);
+    RAN("from: more slots than tokens", lovemudarn_tokens_from(TEXT(FRONTED), NO_LISTS, 11, false, run, 60), 3, 18, false);
+    holds("from: more slots than tokens", third, 15);
     fill_run();
-    RAN("from: the end", lovemudarn_tokens_from(TEXT(FRONTED), NO_LISTS, 18, true, run, 48), 0, 18, true);
-    RAN("from: no slot", lovemudarn_tokens_from(TEXT(FRONTED), NO_LISTS, 1, true, run, 3), 0, 1, true);
-    RAN("from: nothing", lovemudarn_tokens_from(TEXT(""), NO_LISTS, 0, false, run, 48), 0, 0, false);
-    NO_RUN("from: past the end", lovemudarn_tokens_from(TEXT("a+1"), NO_LISTS, 4, true, run, 48), LOVEMUDARN_BAD_POSITION, 4, 0);
-    NO_RUN("from: inside a character", lovemudarn_tokens_from(TEXT("\303\251"), NO_LISTS, 1, true, run, 48), LOVEMUDARN_BAD_POSITION, 1, 0);
-    NO_RUN("from: 2 before 4", lovemudarn_tokens_from(TEXT("a+\377"), NO_LISTS, 9, true, run, 48), LOVEMUDARN_NOT_UTF8, 2, LOVEMUDARN_CAUSE_START);
-    NO_RUN("from: ill-formed past the slots", lovemudarn_tokens_from(TEXT("a+\377"), NO_LISTS, 0, true, run, 4), LOVEMUDARN_NOT_UTF8, 2,
+    RAN("from: the end", lovemudarn_tokens_from(TEXT(FRONTED), NO_LISTS, 18, true, run, 60), 0, 18, true);
+    RAN("from: no slot", lovemudarn_tokens_from(TEXT(FRONTED), NO_LISTS, 1, true, run, 4), 0, 1, true);
+    RAN("from: nothing", lovemudarn_tokens_from(TEXT(""), NO_LISTS, 0, false, run, 60), 0, 0, false);
+    NO_RUN("from: past the end", lovemudarn_tokens_from(TEXT("a+1"), NO_LISTS, 4, true, run, 60), LOVEMUDARN_BAD_POSITION, 4, 0);
+    NO_RUN("from: inside a character", lovemudarn_tokens_from(TEXT("\303\251"), NO_LISTS, 1, true, run, 60), LOVEMUDARN_BAD_POSITION, 1, 0);
+    NO_RUN("from: 2 before 4", lovemudarn_tokens_from(TEXT("a+\377"), NO_LISTS, 9, true, run, 60), LOVEMUDARN_NOT_UTF8, 2, LOVEMUDARN_CAUSE_START);
+    NO_RUN("from: ill-formed past the slots", lovemudarn_tokens_from(TEXT("a+\377"), NO_LISTS, 0, true, run, 5), LOVEMUDARN_NOT_UTF8, 2,
            LOVEMUDARN_CAUSE_START);
-    NO_RUN("from: 3 before 2", lovemudarn_tokens_from(TEXT("a+\377"), NONE, LIST(half), NONE, 0, true, run, 48), LOVEMUDARN_BAD_LIST,
+    NO_RUN("from: 3 before 2", lovemudarn_tokens_from(TEXT("a+\377"), NONE, LIST(half), NONE, 0, true, run, 60), LOVEMUDARN_BAD_LIST,
            LOVEMUDARN_LIST_CONTINUES, 1);
     holds("from: where nothing is written", some, 0);
 
     /* a position past characters of several bytes, and a list's letters */
-    static const uint32_t lettered[4] = {LOVEMUDARN_KIND_IDENT, 0, 3, 5};
-    RAN("from: a list's letters", lovemudarn_tokens_from(TEXT("\360\237\230\200+a\303\251"), LIST(letters), LIST(letters), LIST(faces), 5, false, run, 48), 1, 8,
+    static const uint32_t lettered[5] = {LOVEMUDARN_KIND_IDENT, 0, 3, 5, 0};
+    RAN("from: a list's letters", lovemudarn_tokens_from(TEXT("\360\237\230\200+a\303\251"), LIST(letters), LIST(letters), LIST(faces), 5, false, run, 60), 1, 8,
         false);
-    holds("from: a list's letters", lettered, 4);
+    holds("from: a list's letters", lettered, 5);
+}
+
+/* Texts with line ends, and their tokens: code, length and line, all by hand. No literal here has a suffix. */
+#define WHITE LOVEMUDARN_KIND_WHITESPACE
+#define NAME LOVEMUDARN_KIND_IDENT
+#define MINUS LOVEMUDARN_KIND_MINUS
+static const struct {
+    const char *name;
+    const uint8_t *text;
+    size_t len;
+    bool on;
+    struct {
+        uint32_t code, len, line;
+    } tokens[12]; /* those of length 0 are none */
+} lined[] = {
+    {"nothing", TEXT(""), false, {{0, 0, 0}}},
+    {"one LF", TEXT("\n"), false, {{WHITE, 1, 0}}},
+    {"LF", TEXT("a\nb\n\n c\n"), false, {{NAME, 1, 0}, {WHITE, 1, 0}, {NAME, 1, 1}, {WHITE, 3, 1}, {NAME, 1, 3}, {WHITE, 1, 3}}},
+    {"no LF at the end", TEXT("a\nb"), false, {{NAME, 1, 0}, {WHITE, 1, 0}, {NAME, 1, 1}}},
+    {"CR", TEXT("a\rb\r\rc"), false, {{NAME, 1, 0}, {WHITE, 1, 0}, {NAME, 1, 0}, {WHITE, 2, 0}, {NAME, 1, 0}}},
+    {"CR LF", TEXT("a\r\nb\r\n"), false, {{NAME, 1, 0}, {WHITE, 2, 0}, {NAME, 1, 1}, {WHITE, 2, 1}}},
+    {"LF CR", TEXT("a\n\rb"), false, {{NAME, 1, 0}, {WHITE, 2, 0}, {NAME, 1, 1}}},
+    {"VT and FF", TEXT("a\vb\fc\nd"), false, {{NAME, 1, 0}, {WHITE, 1, 0}, {NAME, 1, 0}, {WHITE, 1, 0}, {NAME, 1, 0}, {WHITE, 1, 0}, {NAME, 1, 1}}},
+    {"U+0085, U+2028, U+2029", TEXT("a\302\205b\342\200\250c\342\200\251d\ne"), false,
+     {{NAME, 1, 0}, {WHITE, 2, 0}, {NAME, 1, 0}, {WHITE, 3, 0}, {NAME, 1, 0}, {WHITE, 3, 0}, {NAME, 1, 0}, {WHITE, 1, 0}, {NAME, 1, 1}}},
+    {"U+010A, whose last byte is 8A", TEXT("\304\212\n\304\212"), false, {{LOVEMUDARN_KIND_UNKNOWN, 2, 0}, {WHITE, 1, 0}, {LOVEMUDARN_KIND_UNKNOWN, 2, 1}}},
+    {"line comments", TEXT("// a\n/// b\r\n//! c\nd"), false,
+     {{LOVEMUDARN_KIND_LINE_COMMENT, 4, 0}, {WHITE, 1, 0}, {LOVEMUDARN_KIND_LINE_COMMENT + 64 * LOVEMUDARN_DOC_OUTER, 6, 1}, {WHITE, 1, 1},
+      {LOVEMUDARN_KIND_LINE_COMMENT + 64 * LOVEMUDARN_DOC_INNER, 5, 2}, {WHITE, 1, 2}, {NAME, 1, 3}}},
+    {"a block comment", TEXT("a/* b\n/* c\n*/\n*/d"), false, {{NAME, 1, 0}, {LOVEMUDARN_KIND_BLOCK_COMMENT + 64 * 4, 15, 0}, {NAME, 1, 3}}},
+    {"a block comment that does not end", TEXT("\n/*\n\n"), false, {{WHITE, 1, 0}, {LOVEMUDARN_KIND_BLOCK_COMMENT, 4, 1}}},
+    {"a string", TEXT("\"a\n\\\nb\"\nc"), false, {{LITERAL(LOVEMUDARN_LITERAL_STR, 1), 7, 0}, {WHITE, 1, 2}, {NAME, 1, 3}}},
+    {"a string that does not end", TEXT("a\n\"b\n\n"), false, {{NAME, 1, 0}, {WHITE, 1, 0}, {LITERAL(LOVEMUDARN_LITERAL_STR, 0), 4, 1}}},
+    {"a raw string", TEXT("r#\"\n\"\n\"#;"), false, {{LITERAL(LOVEMUDARN_LITERAL_RAW_STR, 1 + 1), 8, 0}, {LOVEMUDARN_KIND_SEMI, 1, 2}}},
+    {"other literals", TEXT("b\"\n\";c\"\n\";br\"\n\";cr\"\n\";'\n';"), false,
+     {{LITERAL(LOVEMUDARN_LITERAL_BYTE_STR, 1), 4, 0}, {LOVEMUDARN_KIND_SEMI, 1, 1}, {LITERAL(LOVEMUDARN_LITERAL_C_STR, 1), 4, 1},
+      {LOVEMUDARN_KIND_SEMI, 1, 2}, {LITERAL(LOVEMUDARN_LITERAL_RAW_BYTE_STR, 1), 5, 2}, {LOVEMUDARN_KIND_SEMI, 1, 3},
+      {LITERAL(LOVEMUDARN_LITERAL_RAW_C_STR, 1), 5, 3}, {LOVEMUDARN_KIND_SEMI, 1, 4}, {LITERAL(LOVEMUDARN_LITERAL_CHAR, 1), 3, 4},
+      {LOVEMUDARN_KIND_SEMI, 1, 5}}},
+    {"frontmatter", TEXT("\n\n---\na\n---\nb"), true, {{WHITE, 2, 0}, {LOVEMUDARN_KIND_FRONTMATTER, 9, 2}, {WHITE, 1, 4}, {NAME, 1, 5}}},
+    {"frontmatter that begins with a blank line", TEXT("\n ---\na\n---\nb"), true,
+     {{LOVEMUDARN_KIND_FRONTMATTER + 64 * 1, 11, 0}, {WHITE, 1, 3}, {NAME, 1, 4}}},
+    {"frontmatter off", TEXT("\n\n---\na\n---\nb"), false,
+     {{WHITE, 2, 0}, {MINUS, 1, 2}, {MINUS, 1, 2}, {MINUS, 1, 2}, {WHITE, 1, 2}, {NAME, 1, 3}, {WHITE, 1, 3}, {MINUS, 1, 4}, {MINUS, 1, 4}, {MINUS, 1, 4},
+      {WHITE, 1, 4}, {NAME, 1, 5}}},
+    {"blank lines alone, where frontmatter may stand", TEXT("\n\r\n\n"), true, {{WHITE, 4, 0}}},
+};
+
+/* the LFs among the first n bytes of a text */
+static size_t feeds(const uint8_t *text, size_t n) {
+    size_t count = 0;
+    for (size_t i = 0; i < n; i += 1) count += text[i] == 0x0A;
+    return count;
+}
+
+/* Every token of a text by all calls: one by one, all at once, and from each on to the end. */
+static void all_lines(size_t i) {
+    const uint8_t *text = lined[i].text;
+    const size_t len = lined[i].len;
+    uint32_t right[60];
+    size_t starts[13] = {0}, count = 0;
+    bool flags[13] = {lined[i].on}; /* frontmatter may stand after whitespace and nowhere else */
+    for (; count < 12 && lined[i].tokens[count].len; count += 1) {
+        uint32_t code = lined[i].tokens[count].code, bytes = lined[i].tokens[count].len, line = lined[i].tokens[count].line;
+        uint32_t suffix = LOVEMUDARN_KIND_OF(code) == LOVEMUDARN_KIND_LITERAL ? bytes : 0;
+        size_t start = starts[count];
+        const uint32_t slot[5] = {code, suffix, bytes, (uint32_t)start, line};
+        for (size_t part = 0; part < 5; part += 1) right[5 * count + part] = slot[part];
+        starts[count + 1] = start + bytes;
+        flags[count + 1] = flags[count] && code == WHITE;
+        same(": the table", "a line", line, feeds(text, start));
+        given(": token", lovemudarn_token(text, len, NO_LISTS, start, flags[count]), code, suffix, bytes, start, line, flags[count + 1]);
+    }
+    same(": the table", "the lengths together", starts[count], len);
+    given(": the end", lovemudarn_token(text, len, NO_LISTS, len, flags[count]), LOVEMUDARN_KIND_EOF, 0, 0, len, feeds(text, len), flags[count]);
+    fill_run();
+    answer(": tokens", lovemudarn_tokens(text, len, NO_LISTS, flags[0], run, 5 * count), LOVEMUDARN_DONE, count, 0);
+    holds(": tokens", right, 5 * count);
+    for (size_t from = 0; from <= count; from += 1) {
+        fill_run();
+        RAN(": tokens_from", lovemudarn_tokens_from(text, len, NO_LISTS, starts[from], flags[from], run, 60), count - from, len, flags[count]);
+        holds(": tokens_from", right + 5 * from, 5 * (count - from));
+    }
+}
+
+static const char any_place[] = "fn f() {\n    g(\"h\r\n\", '\\n'); /* i\n\n \303\251 */\r\n\t// \342\200\250 j\n}\n\nk";
+static uint8_t long_text[2 * 65536];
+static uint32_t long_run[5 * 2 * 65536];
+
+static void test_lines(void) {
+    for (size_t i = 0; i < sizeof lined / sizeof lined[0]; i += 1) {
+        of = lined[i].name;
+        all_lines(i);
+    }
+    of = "";
+
+    /* positions at which no token of the whole text starts: the line is that of the position */
+    given("in the third line", lovemudarn_token(TEXT("a\nb\ncd e\n"), NO_LISTS, 5, false), NAME, 0, 1, 5, 2, false);
+    given("at the LF of the second", lovemudarn_token(TEXT("a\nb\ncd e\n"), NO_LISTS, 3, false), WHITE, 0, 1, 3, 1, false);
+    given("between CR and LF", lovemudarn_token(TEXT("a\r\nb"), NO_LISTS, 2, false), WHITE, 0, 1, 2, 0, false);
+    given("in a comment", lovemudarn_token(TEXT("/*\n*/a"), NO_LISTS, 3, false), LOVEMUDARN_KIND_STAR, 0, 1, 3, 1, false);
+    given("at the end, past three LFs", lovemudarn_token(TEXT("a\nb\ncd e\n"), NO_LISTS, 9, true), LOVEMUDARN_KIND_EOF, 0, 0, 9, 3, true);
+    no_token("past the end of the second line", lovemudarn_token(TEXT("a\nb"), NO_LISTS, 4, false), LOVEMUDARN_BAD_POSITION, 4, 0);
+    no_token("inside a character of the second line", lovemudarn_token(TEXT("\n\303\251"), NO_LISTS, 2, false), LOVEMUDARN_BAD_POSITION, 2, 0);
+    static const uint32_t middle[15] = {NAME, 0, 1, 5, 2, WHITE, 0, 1, 6, 2, NAME, 0, 1, 7, 2};
+    fill_run();
+    RAN("from: in the third line", lovemudarn_tokens_from(TEXT("a\nb\ncd e\n"), NO_LISTS, 5, false, run, 15), 3, 8, false);
+    holds("from: in the third line", middle, 15);
+    for (size_t at = 0; at < sizeof any_place; at += 1) {
+        if (((uint8_t)any_place[at] & 0xC0) == 0x80) continue; /* inside a character */
+        size_t line = feeds((const uint8_t *)any_place, at);
+        struct lovemudarn_token_answer a = lovemudarn_token(TEXT(any_place), NO_LISTS, at, false);
+        same("any place", "number", a.number, LOVEMUDARN_DONE);
+        same("any place", "start", a.start, at);
+        same("any place", "line", a.line, line);
+        lovemudarn_tokens_from(TEXT(any_place), NO_LISTS, at, false, run, 5);
+        if (at + 1 == sizeof any_place) continue; /* no token at the end */
+        same("any place, from", "start", run[LOVEMUDARN_START], at);
+        same("any place, from", "line", run[LOVEMUDARN_LINE], line);
+    }
+
+    /* more lines than 16 bits count: blank ones, and then a token in each */
+    const size_t lines = 65536;
+    static const uint32_t last[10] = {WHITE, 0, 65536, 0, 0, NAME, 0, 1, 65536, 65536};
+    for (size_t i = 0; i < lines; i += 1) long_text[i] = '\n';
+    long_text[lines] = 'a';
+    fill_run();
+    answer("65536 LFs", lovemudarn_tokens(long_text, lines + 1, NO_LISTS, false, run, 10), LOVEMUDARN_DONE, 2, 0);
+    holds("65536 LFs", last, 10);
+    fill_run();
+    RAN("65536 LFs: from", lovemudarn_tokens_from(long_text, lines + 1, NO_LISTS, 65536, false, run, 60), 1, 65537, false);
+    holds("65536 LFs: from", last + 5, 5);
+    given("65536 LFs: the last of them", lovemudarn_token(long_text, lines + 1, NO_LISTS, 65535, false), WHITE, 0, 1, 65535, 65535, false);
+    given("65536 LFs: the name", lovemudarn_token(long_text, lines + 1, NO_LISTS, 65536, false), NAME, 0, 1, 65536, 65536, false);
+    given("65536 LFs: the end", lovemudarn_token(long_text, lines + 1, NO_LISTS, 65537, false), LOVEMUDARN_KIND_EOF, 0, 0, 65537, 65536, false);
+    for (size_t i = 0; i < 2 * lines; i += 1) long_text[i] = i % 2 == 0 ? ';' : '\n';
+    answer("65536 lines", lovemudarn_tokens(long_text, 2 * lines, NO_LISTS, false, long_run, 5 * 2 * lines), LOVEMUDARN_DONE, 2 * lines, 0);
+    size_t other = 0;
+    for (size_t i = 0; i < 2 * lines; i += 1) other += long_run[5 * i + LOVEMUDARN_START] != i || long_run[5 * i + LOVEMUDARN_LINE] != i / 2;
+    same("65536 lines", "tokens with another start or line", other, 0);
+    RAN("65536 lines: from", lovemudarn_tokens_from(long_text, 2 * lines, NO_LISTS, 131001, false, long_run, 5 * 70), 70, 131071, false);
+    other = 0;
+    for (size_t i = 0; i < 70; i += 1) other += long_run[5 * i + LOVEMUDARN_START] != 131001 + i || long_run[5 * i + LOVEMUDARN_LINE] != (131001 + i) / 2;
+    same("65536 lines: from", "tokens with another start or line", other, 0);
+    given("65536 lines: the end", lovemudarn_token(long_text, 2 * lines, NO_LISTS, 2 * lines, false), LOVEMUDARN_KIND_EOF, 0, 0, 131072, 65536, false);
 }
 
 static uint8_t out[32];
@@ -578,8 +731,8 @@ static void test_not_utf8(void) {
         for (size_t far = 0; far < 2; far += 1) {
             size_t from = far ? len + 1 : 0;
             no_token(": token", lovemudarn_token(text, len, NO_LISTS, from, true), LOVEMUDARN_NOT_UTF8, at, cause);
-            answer(": tokens", lovemudarn_tokens(text, len, NO_LISTS, true, run, far ? 0 : 48), LOVEMUDARN_NOT_UTF8, at, cause);
-            NO_RUN(": tokens_from", lovemudarn_tokens_from(text, len, NO_LISTS, from, true, run, 48), LOVEMUDARN_NOT_UTF8, at, cause);
+            answer(": tokens", lovemudarn_tokens(text, len, NO_LISTS, true, run, far ? 0 : 60), LOVEMUDARN_NOT_UTF8, at, cause);
+            NO_RUN(": tokens_from", lovemudarn_tokens_from(text, len, NO_LISTS, from, true, run, 60), LOVEMUDARN_NOT_UTF8, at, cause);
             answer(": key", lovemudarn_key(text, len, NO_LISTS, out, far ? 0 : 32), LOVEMUDARN_NOT_UTF8, at, cause);
             raw(": validate_raw_str", lovemudarn_validate_raw_str(text, len, 1 + far), LOVEMUDARN_NOT_UTF8, at, cause, 0, 0, 0, false, 0);
             guarded(": guarded", lovemudarn_guarded(text, len, NONE, NONE, from), LOVEMUDARN_NOT_UTF8, at, cause, 0, false, 0);
@@ -937,9 +1090,9 @@ static void test_too_long(void) {
     no_token("too long", lovemudarn_token(text, len, LIST(low), NONE, NONE, 0, false), LOVEMUDARN_TOO_LONG, 0, 0);
     fill_run();
     answer("tokens: too long", lovemudarn_tokens(text, len, LIST(low), NONE, NONE, false, run, 0), LOVEMUDARN_TOO_LONG, 0, 0);
-    answer("tokens: too long", lovemudarn_tokens(text, len, LIST(low), NONE, NONE, false, run, 48), LOVEMUDARN_TOO_LONG, 0, 0);
+    answer("tokens: too long", lovemudarn_tokens(text, len, LIST(low), NONE, NONE, false, run, 60), LOVEMUDARN_TOO_LONG, 0, 0);
     holds("tokens: too long", some, 0);
-    NO_RUN("from: too long", lovemudarn_tokens_from(text, len, LIST(low), NONE, NONE, 0, true, run, 48), LOVEMUDARN_TOO_LONG, 0, 0);
+    NO_RUN("from: too long", lovemudarn_tokens_from(text, len, LIST(low), NONE, NONE, 0, true, run, 60), LOVEMUDARN_TOO_LONG, 0, 0);
     holds("from: too long", some, 0);
     fill_out();
     answer("key: too long", lovemudarn_key(text, len, LIST(low), NONE, NONE, out, 32), LOVEMUDARN_TOO_LONG, 0, 0);
@@ -957,6 +1110,7 @@ int main(void) {
     test_token();
     test_tokens();
     test_tokens_from();
+    test_lines();
     test_key();
     test_is_ident();
     test_strip_shebang();

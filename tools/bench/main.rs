@@ -10,8 +10,10 @@
 //!
 //! All sides take bytes. "key" is the key into a lent buffer; 000 has none, so there it is 000's
 //! `tokenize` and, in the same pass, the key by the scope paper's words, in plain Rust. "tokens" is the
-//! kind, suffix, length and start of every token into a lent buffer. "check" is what comes before the
-//! tokens: UTF-8 and the rules of the lists, for 000 `from_utf8`, and it is part of the other two.
+//! kind, suffix, length, start and line of every token into a lent buffer; 000 has no lines, so there the
+//! LFs of each token are counted, in plain Rust. (Another checkout may have records without lines: then it
+//! does less.) "check" is what comes before the tokens: UTF-8 and the rules of the lists, for 000
+//! `from_utf8`, and it is part of the other two.
 
 mod lists;
 mod source;
@@ -84,13 +86,16 @@ struct Theirs {
     kind: TokenKind,
     len: u32,
     start: u32,
+    line: u32,
 }
 
 fn their_tokens(bytes: &[u8], out: &mut [Theirs]) -> Option<usize> {
     let text = std::str::from_utf8(bytes).ok()?;
-    let (mut start, mut count) = (0, 0);
+    let (mut start, mut line, mut count) = (0, 0, 0);
     for token in rustc_lexer::tokenize(text, rustc_lexer::FrontmatterAllowed::No) {
-        *out.get_mut(count)? = Theirs { kind: token.kind, len: token.len, start };
+        *out.get_mut(count)? = Theirs { kind: token.kind, len: token.len, start, line };
+        let piece = &bytes[start as usize..(start + token.len) as usize];
+        line += piece.iter().filter(|&&byte| byte == b'\n').count() as u32;
         start += token.len;
         count += 1;
     }
@@ -105,9 +110,10 @@ fn is_picture(c: char) -> bool {
 
 // ---- the archive's side ----
 
-/// A work on the text of a bench, by a crate over an archive: this one's or the one before.
+/// A work on the text of a bench, by a crate over an archive: this one's or the one before, whose records
+/// may have another width.
 macro_rules! archive {
-    ($lib:ident, $bench:ident, $work:ident, $text:ident) => {{
+    ($lib:ident, $bench:ident, $records:ident, $work:ident, $text:ident) => {{
         let Lists { id_start, id_continue, emoji } = $bench.lists;
         let lists = $lib::Lists { id_start, id_continue, emoji };
         let (off, out) = ($lib::FrontmatterAllowed::No, &mut $bench.ours);
@@ -117,10 +123,28 @@ macro_rules! archive {
                 black_box(&mut *out).fill(0);
                 $lib::key_into($text, &lists, out).ok()
             }
-            Work::Tokens => $lib::tokenize_into($text, off, &lists, &mut $bench.our_records).ok(),
+            Work::Tokens => $lib::tokenize_into($text, off, &lists, &mut $bench.$records).ok(),
             Work::Check => $lib::check($text, &lists).ok().map(|()| 0),
         }
     }};
+}
+
+/// Whether the records that a crate over an archive wrote are 000's tokens, but for the lines.
+macro_rules! same_tokens {
+    ($lib:ident, $bench:ident, $records:ident, $tokens:ident) => {
+        $bench.$records[..$tokens].iter().zip(&$bench.their_records).all(|(&ours, theirs)| {
+            // The kinds have the same names and fields.
+            $lib::token_of(ours).is_ok_and(|token| {
+                (token.len, token.start) == (theirs.len, theirs.start as usize)
+                    && format!("{:?}", token.kind) == format!("{:?}", theirs.kind)
+            })
+        })
+    };
+}
+
+/// Records of an archive before a work, of whatever width.
+fn blank<const N: usize>(count: usize) -> Vec<[u32; N]> {
+    vec![[1; N]; count]
 }
 
 // ---- one text, with the buffers of the archive's side and of 000's ----
@@ -131,6 +155,8 @@ struct Bench<'a> {
     ours: Vec<u8>,
     theirs: Vec<u8>,
     our_records: Vec<Record>,
+    #[cfg(before)]
+    before_records: Vec<before::Record>,
     their_records: Vec<Theirs>,
 }
 
@@ -165,14 +191,16 @@ impl Bench<'_> {
     fn new<'a>(text: String, lists: Lists<'a>) -> Bench<'a> {
         let text = text.into_bytes();
         let (bytes, tokens) = (text.len(), text.len() / 2);
-        let blank = Theirs { kind: TokenKind::Eof, len: 0, start: 0 };
+        let eof = Theirs { kind: TokenKind::Eof, len: 0, start: 0, line: 0 };
         Bench {
             text,
             lists,
             ours: vec![1; bytes],
             theirs: vec![1; bytes],
-            our_records: vec![[1; 4]; tokens],
-            their_records: vec![blank; tokens],
+            our_records: blank(tokens),
+            #[cfg(before)]
+            before_records: blank(tokens),
+            their_records: vec![eof; tokens],
         }
     }
 
@@ -180,9 +208,9 @@ impl Bench<'_> {
     fn run(&mut self, work: Work, side: Side) -> Option<usize> {
         let text = black_box(&self.text[..]);
         match (side, work) {
-            (Side::Rattle, work) => archive!(lovemudarn, self, work, text),
+            (Side::Rattle, work) => archive!(lovemudarn, self, our_records, work, text),
             #[cfg(before)]
-            (Side::Before, work) => archive!(before, self, work, text),
+            (Side::Before, work) => archive!(before, self, before_records, work, text),
             (Side::Rust, Work::Key) => their_key(text, &mut self.theirs),
             (Side::Rust, Work::KeyCleared) => {
                 black_box(&mut self.theirs).fill(0);
@@ -201,7 +229,6 @@ impl Bench<'_> {
     fn agrees(&mut self, side: Side) -> Option<(usize, usize)> {
         // Nothing is left of what another archive wrote.
         self.ours.fill(1);
-        self.our_records.fill([1; 4]);
         let key = self.run(Work::Key, side)?;
         if self.run(Work::Key, Side::Rust)? != key || self.ours[..key] != self.theirs[..key] {
             return None;
@@ -210,16 +237,22 @@ impl Bench<'_> {
         if self.run(Work::Tokens, Side::Rust)? != tokens {
             return None;
         }
-        for (&ours, theirs) in self.our_records[..tokens].iter().zip(&self.their_records) {
-            let token = lovemudarn::token_of(ours).ok()?;
-            // The kinds have the same names and fields.
-            if (token.len, token.start) != (theirs.len, theirs.start as usize)
-                || format!("{:?}", token.kind) != format!("{:?}", theirs.kind)
-            {
-                return None;
+        let same = match side {
+            Side::Rattle => {
+                same_tokens!(lovemudarn, self, our_records, tokens) && self.same_lines(tokens)
             }
-        }
-        Some((key, tokens))
+            #[cfg(before)]
+            Side::Before => same_tokens!(before, self, before_records, tokens),
+            Side::Rust => true,
+        };
+        same.then_some((key, tokens))
+    }
+
+    /// Whether the lines of the archive's records are those that were counted beside 000.
+    fn same_lines(&self, tokens: usize) -> bool {
+        self.our_records[..tokens].iter().zip(&self.their_records).all(|(&ours, theirs)| {
+            lovemudarn::token_of(ours).is_ok_and(|token| token.line == theirs.line)
+        })
     }
 
     fn time(&mut self, work: Work, side: Side) -> f64 {

@@ -8,7 +8,9 @@ from common.ending import fail
 from common.lists_file import MAX_VERSION
 
 FILE_LIMIT = 262144
-ANSWER_LIMIT = 65536
+# The bytes of a token in an answer of operations 10 and 14, and of a record in one of operation 15: five numbers.
+TOKEN_SIZE = 20
+ANSWER_LIMIT = 4096 * TOKEN_SIZE
 
 VERDICT, VERDICT_AFTER, WHITESPACE, HORIZONTAL, START, CONTINUE, EMOJI, IDENT = range(1, 9)
 ONE, TOKENS, SHEBANG, RAW, GUARDED, TOKENS_ONCE, LIST, SLOTS, KEY = range(9, 18)
@@ -46,7 +48,7 @@ def section(lists, vectors):
 
 
 # Operations from ONE on: the least bytes handed in, and the bytes of an answer that is no refusal.
-SIZES = {ONE: (8, 28), SHEBANG: (0, 12), RAW: (4, 24), GUARDED: (4, 24), SLOTS: (8, 12)}
+SIZES = {ONE: (8, 32), SHEBANG: (0, 12), RAW: (4, 24), GUARDED: (4, 24), SLOTS: (8, 12)}
 
 
 def of_the_format(operation, given, answer):
@@ -74,10 +76,10 @@ def of_the_format(operation, given, answer):
     if operation in (VERDICT, IDENT):
         return answer == 12
     if operation in (TOKENS, TOKENS_ONCE):
-        whole = answer % 16 == 0 and 0 < answer <= ANSWER_LIMIT
+        whole = answer % TOKEN_SIZE == 0 and 0 < answer <= ANSWER_LIMIT
         return handed_in >= 4 and (whole or answer == 12)
     if operation == LIST:
-        return handed_in >= 4 and answer == 12 + 16 * RECORDS
+        return handed_in >= 4 and answer == 12 + TOKEN_SIZE * RECORDS
     if operation in SIZES:
         least, size = SIZES[operation]
         return handed_in >= least and answer in (12, size)

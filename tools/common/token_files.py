@@ -4,12 +4,12 @@ import sys
 
 from common.ending import fail
 from common.lists import EVERYTHING, GOOD, NO_LISTS, refused_lists
-from common.packing import ANSWER_LIMIT, RECORDS, TOKENS, TOKENS_ONCE, numbers_of, section, vector
+from common.packing import ANSWER_LIMIT, RECORDS, TOKENS, TOKENS_ONCE, TOKEN_SIZE, numbers_of, section, vector
 from common.texts import (
     EDGES, EMOJI_ONLY, ILL_FORMED, LINE, NO_EMOJI, OTHER_ROWS, POINTS, RAW_STARTS, ROWS, SHORT,
     damaged, glued, has_others, listed_requests, long_section, over, random_section, rows, tokens,
 )
-from common.tokens import MODES, Calls, token_numbers
+from common.tokens import MODES, Calls, lined, token_numbers
 
 # The sections of common/texts.py that a file holds.
 EDGE_FILES = {
@@ -34,7 +34,7 @@ LISTED_TEXTS = 110
 SEED = 1
 # The most bytes of a long text and of the answer on it; one text has the longest answer there is.
 LONGEST = 20100
-A_LONG_ANSWER = 24000
+A_LONG_ANSWER = 30000
 
 
 def spread(items, most):
@@ -173,7 +173,7 @@ class Files:
     # ---- long texts ----
 
     def long(self):
-        """By the step that checks the text once; in one file tokens with frontmatter off, in the other the rest."""
+        """By the step that checks the text once; tokens with frontmatter off, the rest, and the longest answer: a file each."""
         requests = [asked for asked in long_section() if len(asked) < 2 * LONGEST]
         off = [asked for asked in requests if asked.startswith("tokens off")]
         rest = [asked for asked in requests if asked not in off] + [tokens("on", "-" * 65535 + "\n")]
@@ -185,14 +185,14 @@ class Files:
         first = [self.section(NO_LISTS, once(off), A_LONG_ANSWER), self.section(self.real, once(others), A_LONG_ANSWER)]
 
         def fill(calls):
-            calls.requests(rest + [self.longest_answer()], TOKENS_ONCE)
+            calls.requests(rest, TOKENS_ONCE)
             calls.requests([tokens("on", "\n" + LINE * 20)])
 
-        return first, [self.section(NO_LISTS, fill)]
+        return first, [self.section(NO_LISTS, fill)], [self.section(NO_LISTS, once([self.longest_answer()]))]
 
     def longest_answer(self):
         """As many tokens as an answer holds."""
-        most = ANSWER_LIMIT // 16
+        most = ANSWER_LIMIT // TOKEN_SIZE
         lines, rest = divmod(most - 1, len(self.steps(LINE.encode("ascii"))) - 1)
         text = LINE * lines + ";" * rest
         if len(self.steps(text.encode("ascii"))) != most:
@@ -201,24 +201,24 @@ class Files:
 
     # ---- the list call ----
 
-    def listed_texts(self):
-        """Mode and text: the rows, even parts of the edges, random ones, and texts of as many tokens as there are records, one less and one more."""
+    def listed_named(self):
+        """Mode and text: the rows, and an even part of the edges."""
         texts = [(MODES.index(mode), text.encode("utf-8")) for mode, text, _ in ROWS]
-        asked = [line for name in EDGES for line in EDGES[name]() if line.startswith("tokens")]
-        asked = spread(asked, 70) + [line for line in random_section(3 * SEED + 9, glued, 60) if line.startswith("tokens")]
-        for line in asked:
-            _, mode, *words = line.split()
-            texts.append((MODES.index(mode), bytes.fromhex("".join(words))))
+        return texts + asked_texts(spread([line for name in EDGES for line in EDGES[name]() if line.startswith("tokens")], 70))
+
+    def listed_random(self):
+        """Mode and text: random ones, texts of as many tokens as there are records, one less and one more, and others."""
+        texts = asked_texts(line for line in random_section(3 * SEED + 9, glued, 60) if line.startswith("tokens"))
         for count in (RECORDS - 1, RECORDS, RECORDS + 1):
             texts += [(0, b";" * count), (1, b" ;" * (count // 2) + b" " * (count % 2)), (1, b"---\n---\n" + b"a " * ((count - 2) // 2) + b"b" * (count % 2))]
-        return texts + [(0, b"a+1"), (0, b""), (1, b""), (0, b"+" * 3000), (0, b"a\xff"), (1, b"\xc3"), (0, b"\xe2(")]
+        return texts + [(1, b""), (0, b"+" * 3000), (0, b"a\xff"), (1, b"\xc3"), (0, b"\xe2(")]
 
     def list_records(self):
-        texts = self.listed_texts()
+        """The rows and edges, and what the lists decide, in one file, random texts in another: one would be too long."""
+        named, random = self.listed_named(), self.listed_random()
 
-        def fill(calls):
-            for flag, text in texts:
-                calls.list(flag, text)
+        def fill(texts):
+            return lambda calls: [calls.list(flag, text) for flag, text in texts]
 
         def refused(calls):
             calls.list(0, b"a")
@@ -226,17 +226,13 @@ class Files:
 
         bad = [numbers for numbers, _ in refused_lists()]
         lists = [(bad[0], GOOD[1], GOOD[2]), (GOOD[0], bad[1], GOOD[2]), (GOOD[0], GOOD[1], bad[2])]
-        others = [(flag, text) for flag, text in texts if any(byte >= 0x80 for byte in text)]
-
-        def fill_real(calls):
-            for flag, text in others[:24]:
-                calls.list(flag, text)
-
-        return [self.section(NO_LISTS, fill), self.section(self.real, fill_real)] + [self.section(lists_, refused) for lists_ in lists]
+        others = [(flag, text) for flag, text in named + random if any(byte >= 0x80 for byte in text)]
+        first = [self.section(NO_LISTS, fill(named)), self.section(self.real, fill(others[:24]))]
+        return first + [self.section(lists_, refused) for lists_ in lists], [self.section(NO_LISTS, fill(random))]
 
     def list_slots(self):
         """No slot, one too few, exactly enough, one more, many."""
-        texts = self.listed_texts()
+        texts = self.listed_named() + self.listed_random()
 
         def fill(calls):
             for flag, text in texts:
@@ -258,11 +254,21 @@ class Files:
         text = fenced(65536)
         if self.steps(text) is not None:
             fail("the Rust has an answer for 65,536 dashes")
-        answer = b"".join(numbers_of(*token_numbers(word)) for word in fence_tokens(len(text)))
+        read = [token_numbers(word) for word in fence_tokens(len(text))]
+        answer = b"".join(numbers_of(*token) for token in lined(text, read))
         return [section(NO_LISTS, [vector(TOKENS_ONCE, numbers_of(1) + text, answer)])]
 
     def steps(self, text):
         return Calls(self.oracle, NO_LISTS).ask("steps", "on", text.hex())
+
+
+def asked_texts(requests):
+    """Mode and text of requests for tokens."""
+    texts = []
+    for line in requests:
+        _, mode, *words = line.split()
+        texts.append((MODES.index(mode), bytes.fromhex("".join(words))))
+    return texts
 
 
 def fenced(count):
@@ -308,9 +314,9 @@ def make(oracle, real):
     files["token-lists.vec"] = maker.lists()
     files["token-places.vec"] = maker.places()
     files["token-refused.vec"] = maker.refused()
-    files["token-long.vec"], files["token-long-other.vec"] = maker.long()
+    files["token-long.vec"], files["token-long-other.vec"], files["token-longest.vec"] = maker.long()
     files["token-fence.vec"] = maker.fence()
-    files["list-records.vec"] = maker.list_records()
+    files["list-records.vec"], files["list-records-random.vec"] = maker.list_records()
     files["list-slots.vec"] = maker.list_slots()
     print(
         f"tokens: {maker.panics} panics and {maker.too_long} answers that are too long left out,"

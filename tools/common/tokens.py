@@ -1,14 +1,17 @@
 """Vectors of the calls that read tokens: operations 9 to 17 of tools/oracle/README.md.
 
 What the Rust can say comes from the oracle. The Rust has no word for a refusal: there the
-rules of the scope paper are applied here, in the plainest way and in the paper's order.
+rules of the scope paper are applied here, in the plainest way and in the paper's order. The
+Rust has no lines either: request W5 says what they are, and line_at counts them.
 """
+
+import itertools
 
 from common.ending import fail
 from common.keys import first_broken, key_of, pieces
 from common.lists import bad_index
 from common.packing import (
-    ANSWER_LIMIT, GUARDED, KEY, LIST, MOST_ROOM, ONE, RAW, RECORDS, SHEBANG, SLOTS, TOKENS, VERDICT,
+    ANSWER_LIMIT, GUARDED, KEY, LIST, MOST_ROOM, ONE, RAW, RECORDS, SHEBANG, SLOTS, TOKENS, TOKEN_SIZE, VERDICT,
     numbers_in, numbers_of, section, vector, vector_at,
 )
 from common.texts import request
@@ -23,8 +26,8 @@ LITERALS = ["Int", "Float", "Char", "Byte", "Str", "ByteStr", "CStr", "RawStr", 
 BASES = ["Binary", "Octal", "Decimal", "Hexadecimal"]
 DOC_STYLES = ["none", "outer", "inner"]
 MODES = ["off", "on"]
-# What a record of operation 15 holds before the call: a Bang of 5 bytes at 3.
-BLANK = (KINDS.index("Bang"), 0, 5, 3)
+# What a record of operation 15 holds before the call: a Bang of 5 bytes at 3 in line 7.
+BLANK = (KINDS.index("Bang"), 0, 5, 3, 7)
 # What the bytes of operation 17 may hold before the call: bytes of texts and of keys, and others.
 FILLS = [0x00, 0x0A, 0x20, 0x2F, 0x61, 0x7F, 0x80, 0xAA, 0xC3, 0xFF]
 
@@ -67,6 +70,17 @@ def token_numbers(word):
     kind, *holds, length, flag = word.split(",")
     suffix = int(holds.pop(), 16) if kind == "Literal" else 0
     return KINDS.index(kind) + 64 * detail_of(kind, holds), suffix, int(length, 16), MODES.index(flag)
+
+
+def line_at(text, start):
+    """The line of a token that starts there: the bytes 0x0A before it. All lines of expected answers are counted here."""
+    return text[:start].count(b"\n")
+
+
+def lined(text, tokens):
+    """The numbers of tokens that follow each other from the start of the text, each with its line after them."""
+    starts = itertools.accumulate((length for _, _, length, _ in tokens), initial=0)
+    return [(*token, line_at(text, start)) for token, start in zip(tokens, starts)]
 
 
 def check_flags(flag, tokens):
@@ -147,7 +161,7 @@ class Calls:
             if words is not None:
                 code, suffix, length, after = token_numbers(words[0])
                 check_flags(flag, [(code, suffix, length, after)])
-                answer = numbers_of(0, code, suffix, length, position, position + length, after)
+                answer = numbers_of(0, code, suffix, length, position, line_at(text, position), position + length, after)
         self.work += len(text)
         self.add(ONE, numbers_of(position, flag) + text, answer)
 
@@ -158,7 +172,7 @@ class Calls:
             if words is not None:
                 answer = self.token_list(flag, text, words)
         if answer is not None and operation == TOKENS:
-            self.work += len(text) * max(len(answer) // 16, 1)
+            self.work += len(text) * max(len(answer) // TOKEN_SIZE, 1)
         self.add(operation, numbers_of(flag) + text, answer)
 
     def listed(self, flag, text, words):
@@ -175,12 +189,12 @@ class Calls:
         lengths = [length for _, _, length, _ in tokens]
         if not all(lengths[:-1]) or lengths[-1] != 0 or sum(lengths) != len(text):
             fail(f"the lengths do not add up on {text.hex()}")
-        answer = b"".join(numbers_of(*token) for token in tokens)
+        answer = b"".join(numbers_of(*token) for token in lined(text, tokens))
         self.too_long += len(answer) > self.answer_limit
         return answer if len(answer) <= self.answer_limit else None
 
     def records(self, flag, text):
-        """A refusal's numbers, or None and the records of the tokens without Eof: kind code, suffix start, length, start."""
+        """A refusal's numbers, or None and the records of the tokens without Eof: kind code, suffix start, length, start, line."""
         refused = self.refusal(3, text)
         if refused is not None:
             return refused, []
@@ -188,9 +202,9 @@ class Calls:
         numbers = numbers_in(self.token_list(flag, text, words))
         records = []
         start = 0
-        for at in range(0, len(numbers) - 4, 4):
-            code, suffix, length, _ = numbers[at : at + 4]
-            records.append((code, suffix, length, start))
+        for at in range(0, len(numbers) - 5, 5):
+            code, suffix, length, _, line = numbers[at : at + 5]
+            records.append((code, suffix, length, start, line))
             start += length
         return None, records
 

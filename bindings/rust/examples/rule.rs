@@ -72,9 +72,9 @@ fn answers(text: &[u8], lists: &Lists) -> Result<(Vec<u8>, Vec<Token>), Refusal>
 
 fn printed(key: &[u8], tokens: &[Token]) -> ExitCode {
     let mut lines = format!("key: {}\n", key.escape_ascii());
-    for Token { kind, len, start } in tokens {
-        // Nothing fails in a string.
-        let _ = writeln!(lines, "{kind:?}, length {len}, start {start}");
+    for Token { kind, len, start, line } in tokens {
+        // Nothing fails in a string. The first line is line 0, as in the records.
+        let _ = writeln!(lines, "{kind:?}, length {len}, start {start}, line {line}");
     }
     // A part of a key is no key: what was not written whole is told.
     let mut out = io::stdout().lock();

@@ -8,7 +8,7 @@ use std::iter::FusedIterator;
 use std::sync::Arc;
 
 use crate::{
-    FrontmatterAllowed, GuardedStr, Lists, Record, Refusal, Token, TokenKind,
+    FrontmatterAllowed, GuardedStr, Lists, NUMBERS_OF_A_TOKEN, Record, Refusal, Token, TokenKind,
     guarded_double_quoted_string, token_of, tokens_from,
 };
 
@@ -23,8 +23,8 @@ const PART: usize = 8;
 ///
 /// Text and lists are checked where the cursor is made, and every refusal comes there. They stay
 /// borrowed, so what was checked stays so. The tokens are read in blocks, at most nine for a text, into
-/// a buffer of the cursor's own of about twice the text's bytes: the time to go through a text grows as
-/// its length does.
+/// a buffer of the cursor's own of about two and a half times the text's bytes: the time to go through a
+/// text grows as its length does.
 ///
 /// A clone is a place to come back to, and costs little: clones share their block.
 ///
@@ -42,6 +42,9 @@ pub struct Cursor<'a> {
     lists: Lists<'a>,
     /// Where the cursor stands: a character begins there, or the text ends.
     at: usize,
+    /// The line there, counted from the text: what the archive says of the next token has to agree, and at
+    /// the end it says nothing.
+    line: u32,
     /// Where the next token starts: before `at` only where hashes were passed that begin no string.
     start: usize,
     frontmatter: FrontmatterAllowed,
@@ -75,6 +78,7 @@ impl<'a> Cursor<'a> {
             text,
             lists: *lists,
             at: 0,
+            line: 0,
             start: 0,
             frontmatter,
             block: Arc::new(block),
@@ -119,7 +123,9 @@ impl<'a> Cursor<'a> {
     pub fn advance_token(&mut self) -> Token {
         match self.try_advance_token() {
             Ok(Some(token)) => token,
-            Ok(None) | Err(_) => Token { kind: TokenKind::Eof, len: 0, start: self.at },
+            Ok(None) | Err(_) => {
+                Token { kind: TokenKind::Eof, len: 0, start: self.at, line: self.line }
+            }
         }
     }
 
@@ -180,12 +186,12 @@ impl<'a> Cursor<'a> {
         let &record = self.block.get(self.given).ok_or(FOREIGN)?;
         let token = token_of(record)?;
         let next = self.past(token.len)?;
-        if token.start != self.at || token.kind == TokenKind::Eof {
+        if (token.start, token.line) != (self.at, self.line) || token.kind == TokenKind::Eof {
             return Err(FOREIGN);
         }
         let token = self.with_hashes(token);
         self.given += 1;
-        self.at = next;
+        self.move_to(next);
         self.start = next;
         if token.kind != TokenKind::Whitespace {
             self.frontmatter = FrontmatterAllowed::No;
@@ -196,7 +202,7 @@ impl<'a> Cursor<'a> {
     fn take_guarded(&mut self) -> Result<Option<GuardedStr>, Refusal> {
         let (found, next) = guarded_double_quoted_string(self.text, &self.lists, self.at)?;
         let passed = u32::try_from(next - self.at.min(next)).map_err(|_| FOREIGN)?;
-        self.at = self.past(passed)?;
+        self.move_to(self.past(passed)?);
         if found.is_some() {
             self.start = self.at;
         }
@@ -240,7 +246,17 @@ impl<'a> Cursor<'a> {
             }
             other => other,
         };
-        Token { kind, len: token.len.saturating_add(hashes), start: self.start }
+        // No line ends among hashes.
+        Token { kind, len: token.len.saturating_add(hashes), start: self.start, line: token.line }
+    }
+
+    /// Moves the cursor to a place further on.
+    fn move_to(&mut self, next: usize) {
+        let passed = self.text.as_bytes().get(self.at..next).unwrap_or_default();
+        let feeds = passed.iter().filter(|&&byte| byte == b'\n').count();
+        // Within the text, and so within 32 bits.
+        self.line = self.line.saturating_add(feeds as u32);
+        self.at = next;
     }
 }
 
@@ -273,7 +289,7 @@ fn fill(
 ) -> Result<usize, Refusal> {
     // There are no more tokens than bytes.
     let room = room.min(text.len().saturating_sub(at));
-    block.resize(room, [0; 4]);
+    block.resize(room, [0; NUMBERS_OF_A_TOKEN]);
     tokens_from(text, lists, at, frontmatter, block).map(|run| run.tokens)
 }
 
@@ -370,7 +386,8 @@ mod tests {
         assert!(Arc::ptr_eq(&cursor.block, &start.block));
         while cursor.advance_token().kind != TokenKind::Eof {}
         for at in 0..text.len() {
-            assert_eq!(start.advance_token(), Token { kind: TokenKind::Semi, len: 1, start: at });
+            let token = Token { kind: TokenKind::Semi, len: 1, start: at, line: 0 };
+            assert_eq!(start.advance_token(), token);
         }
         assert_eq!(start.advance_token().kind, TokenKind::Eof);
     }
@@ -383,6 +400,8 @@ mod tests {
         loop {
             let at = cursor.position();
             let token = cursor.advance_token();
+            let line = text[..at].matches('\n').count() as u32;
+            assert_eq!(token.line, line);
             if token.kind == TokenKind::Eof {
                 assert_eq!((token.len, token.start, cursor.position()), (0, at, at));
                 break;
@@ -418,17 +437,28 @@ mod tests {
             move |cursor: &mut Cursor| Arc::get_mut(&mut cursor.block).unwrap()[7] = record
         };
         // Right; of no kind; of no length; past the text; not here; Eof.
-        assert_eq!(spoiled(&text, record([14, 0, 1, 7])), (1000, None));
+        assert_eq!(spoiled(&text, record([14, 0, 1, 7, 0])), (1000, None));
         let unknown = Refusal::Unknown { number: 0, beside: 43, second: 0 };
-        assert_eq!(spoiled(&text, record([43, 0, 1, 7])), (7, Some(unknown)));
-        for bad in
-            [[14, 0, 0, 7], [14, 0, 994, 7], [14, 0, u32::MAX, 7], [14, 0, 1, 8], [42, 0, 1, 7]]
-        {
+        assert_eq!(spoiled(&text, record([43, 0, 1, 7, 0])), (7, Some(unknown)));
+        for bad in [
+            [14, 0, 0, 7, 0],
+            [14, 0, 994, 7, 0],
+            [14, 0, u32::MAX, 7, 0],
+            [14, 0, 1, 8, 0],
+            [42, 0, 1, 7, 0],
+        ] {
             assert_eq!(spoiled(&text, record(bad)), (7, Some(FOREIGN)), "{bad:?}");
+        }
+        // In its line, and in another one.
+        let lines = "\n;".repeat(500);
+        assert_eq!(spoiled(&lines, record([14, 0, 1, 7, 4])), (1000, None));
+        for line in [0, 3, 5, u32::MAX] {
+            let bad = [14, 0, 1, 7, line];
+            assert_eq!(spoiled(&lines, record(bad)), (7, Some(FOREIGN)), "{bad:?}");
         }
         // Into a character.
         let text = format!(";;;;;;;é{text}");
-        assert_eq!(spoiled(&text, record([41, 0, 1, 7])), (7, Some(FOREIGN)));
+        assert_eq!(spoiled(&text, record([41, 0, 1, 7, 0])), (7, Some(FOREIGN)));
         // More tokens than records, and none.
         let text = ";".repeat(1000);
         assert_eq!(spoiled(&text, |cursor| cursor.filled += 1), (SMALL, Some(FOREIGN)));

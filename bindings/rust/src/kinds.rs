@@ -11,7 +11,7 @@ pub enum FrontmatterAllowed {
     No,
 }
 
-/// A token of a text: `len` bytes from byte `start` on.
+/// A token of a text: `len` bytes from byte `start` on, in line `line`.
 #[derive(Clone, Copy, Debug, PartialEq, Eq, Hash)]
 pub struct Token {
     /// What the token is.
@@ -20,6 +20,9 @@ pub struct Token {
     pub len: u32,
     /// Where it starts: bytes from the beginning of the text.
     pub start: usize,
+    /// The line in which it starts: how many LFs stand before it, 0 in the first line. No other
+    /// character ends a line; a CR alone does not, nor does U+2028.
+    pub line: u32,
 }
 
 /// The kinds of tokens.

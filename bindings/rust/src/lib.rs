@@ -86,9 +86,12 @@ pub struct Run {
     pub frontmatter: FrontmatterAllowed,
 }
 
+/// How many numbers a [`Record`] has.
+pub const NUMBERS_OF_A_TOKEN: usize = 5;
+
 /// The numbers of a token in the buffer of [`tokenize_into`] and [`tokens_from`]:
-/// [`TokenKind::code`], the start of a suffix (0 but for literals), length, start.
-pub type Record = [u32; 4];
+/// [`TokenKind::code`], the start of a suffix (0 but for literals), length, start, line.
+pub type Record = [u32; NUMBERS_OF_A_TOKEN];
 
 /// The tokens of a text in order, without [`TokenKind::Eof`], one after the other as they are asked
 /// for.
@@ -129,7 +132,7 @@ pub fn tokenize_into(
 }
 
 /// Writes as many tokens from a position on as the buffer has records for. Records past them keep their
-/// values. [`token_of`] reads a record; starts count from the beginning of the text.
+/// values. [`token_of`] reads a record; starts and lines count from the beginning of the text.
 ///
 /// Refused are 1, 3, 2, and 4 where the position is past the end or inside a character; then nothing
 /// is written. Each call checks the whole text: [`Cursor`] calls it a few times for a text.
@@ -161,10 +164,10 @@ pub fn tokens_from(
 /// The token of a record that [`tokenize_into`] or [`tokens_from`] wrote; [`Refusal::Unknown`] for
 /// numbers that are no kind's.
 pub fn token_of(record: Record) -> Result<Token, Refusal> {
-    let [code, suffix_start, len, start] = record;
+    let [code, suffix_start, len, start, line] = record;
     // A place in a text that is in memory: it fits.
     let start = start as usize;
-    Ok(Token { kind: kind_of(code, suffix_start)?, len, start })
+    Ok(Token { kind: kind_of(code, suffix_start)?, len, start, line })
 }
 
 /// The token at a position, with frontmatter allowed there or not.
@@ -185,7 +188,7 @@ pub fn advance_token(
     refused(answer.number, answer.beside, answer.second)?;
     let kind = kind_of(answer.kind, answer.suffix_start)?;
     Ok(Advanced {
-        token: Token { kind, len: answer.len, start: answer.start },
+        token: Token { kind, len: answer.len, start: answer.start, line: answer.line },
         next: answer.next,
         frontmatter: allowed(answer.on),
     })

@@ -20,6 +20,7 @@ pub struct TokenAnswer {
     pub suffix_start: u32,
     pub len: u32,
     pub start: usize,
+    pub line: u32,
     pub next: usize,
     pub on: bool,
 }

@@ -17,7 +17,7 @@ use common::{by_rust, every_call_refuses};
 use lists::pairs;
 use lovemudarn::{
     Base, Cursor, DocStyle, FrontmatterAllowed, GuardedStr, Lists, LiteralKind, RawStrError,
-    Refusal, Token, TokenKind,
+    Record, Refusal, Token, TokenKind,
 };
 
 // ---- what rustc's lexer says, in the types of this crate ----
@@ -126,11 +126,17 @@ fn guarded(found: rustc_lexer::GuardedStr) -> GuardedStr {
     }
 }
 
+/// The line of a place: the LFs before it. Their tokens have neither starts nor lines.
+fn line_at(text: &str, place: usize) -> u32 {
+    text.bytes().take(place).filter(|&byte| byte == b'\n').count() as u32
+}
+
 fn their_tokens(text: &str, frontmatter: FrontmatterAllowed) -> Vec<Token> {
     let mut start = 0;
     rustc_lexer::tokenize(text, allowed(frontmatter))
         .map(|token| {
-            let token = Token { kind: kind(token.kind), len: token.len, start };
+            let line = line_at(text, start);
+            let token = Token { kind: kind(token.kind), len: token.len, start, line };
             start += token.len as usize;
             token
         })
@@ -274,6 +280,8 @@ fn all_lists() -> Vec<Owned> {
 struct Count {
     texts: usize,
     tokens: usize,
+    /// Of these, how many are past the first line.
+    later: usize,
     strings: usize,
     keys: usize,
     broken: usize,
@@ -288,15 +296,20 @@ fn compare(text: &str, lists: &Lists, count: &mut Count) {
         let theirs = their_tokens(text, frontmatter);
         let ours: Vec<Token> = lovemudarn::tokenize(text, frontmatter, lists).unwrap().collect();
         assert_eq!(ours, theirs, "{text:?} {frontmatter:?}");
+        let mut records = vec![Record::default(); text.len()];
+        let tokens = lovemudarn::tokenize_into(text, frontmatter, lists, &mut records).unwrap();
+        let read = |&record| lovemudarn::token_of(record).unwrap();
+        assert!(records[..tokens].iter().map(read).eq(ours), "{text:?} {frontmatter:?}");
         count.tokens += theirs.len();
+        count.later += theirs.iter().filter(|token| token.line > 0).count();
         // One by one, with the flag that their cursor has.
         let mut cursor = rustc_lexer::Cursor::new(text, allowed(frontmatter));
         let (mut at, mut flag) = (0, frontmatter);
         for token in theirs.iter().map(Some).chain([None]) {
             let one = lovemudarn::advance_token(text, lists, at, flag).unwrap();
-            let token =
-                token.copied().unwrap_or(Token { kind: TokenKind::Eof, len: 0, start: text.len() });
-            assert_eq!(one.token, token, "{text:?} {at}");
+            let end = text.len();
+            let eof = Token { kind: TokenKind::Eof, len: 0, start: end, line: line_at(text, end) };
+            assert_eq!(one.token, token.copied().unwrap_or(eof), "{text:?} {at}");
             cursor.advance_token();
             assert_eq!(
                 one.frontmatter == FrontmatterAllowed::Yes,
@@ -323,6 +336,8 @@ fn compare(text: &str, lists: &Lists, count: &mut Count) {
     assert_eq!(lovemudarn::strip_shebang(text), Ok(rustc_lexer::strip_shebang(text)), "{text:?}");
     assert_eq!(lovemudarn::is_ident(text, lists), Ok(rustc_lexer::is_ident(text)), "{text:?}");
     for (at, _) in text.char_indices().chain([(text.len(), ' ')]) {
+        let one = lovemudarn::advance_token(text, lists, at, FrontmatterAllowed::No).unwrap();
+        assert_eq!((one.token.start, one.token.line), (at, line_at(text, at)), "{text:?}");
         let rest = &text[at..];
         let mut cursor = rustc_lexer::Cursor::new(rest, rustc_lexer::FrontmatterAllowed::No);
         let found = cursor.guarded_double_quoted_string().map(guarded);
@@ -367,6 +382,7 @@ fn compare_cursors(text: &str, lists: &Lists, chance: &mut Chance, count: &mut C
                 let token = theirs.advance_token();
                 let (token, ours) = ((kind(token.kind), token.len), ours.advance_token());
                 assert_eq!((ours.kind, ours.len), token, "{text:?}");
+                assert_eq!(ours.line, line_at(text, ours.start), "{text:?}");
                 if ours.kind == TokenKind::Eof {
                     assert_eq!(ours.start, text.len());
                     break;
@@ -468,9 +484,10 @@ fn the_same_as_rustcs_lexer() {
         }
     }
     println!(
-        "{} texts, {} tokens, {} strings after hashes, {} keys, {} broken, {} ill-formed by cause {:?}: all agree",
+        "{} texts, {} tokens, {} of them past the first line, {} strings after hashes, {} keys, {} broken, {} ill-formed by cause {:?}: all agree",
         count.texts,
         count.tokens,
+        count.later,
         count.strings,
         count.keys,
         count.broken,
@@ -483,6 +500,7 @@ fn the_same_as_rustcs_lexer() {
     for seen in count.causes {
         assert!(seen * 400 > count.texts, "too few of a cause to tell");
     }
+    assert!(count.later * 10 > count.tokens, "too few lines to tell");
 }
 
 #[test]

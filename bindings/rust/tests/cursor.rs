@@ -11,7 +11,7 @@ const NONE: &Lists = &Lists::EMPTY;
 
 /// By the list call, with room for as many tokens as a text may have.
 fn all_at_once(text: &str, frontmatter: FrontmatterAllowed, lists: &Lists) -> Vec<Token> {
-    let mut records: Vec<Record> = vec![[0; 4]; text.len()];
+    let mut records = vec![Record::default(); text.len()];
     let count = tokenize_into(text, frontmatter, lists, &mut records).unwrap();
     records[..count].iter().map(|&record| token_of(record).unwrap()).collect()
 }
@@ -26,7 +26,8 @@ fn same(text: &str, frontmatter: FrontmatterAllowed, lists: &Lists) -> usize {
         assert_eq!(cursor.advance_token(), token, "{text:?}");
     }
     for _ in 0..3 {
-        let end = Token { kind: TokenKind::Eof, len: 0, start: text.len() };
+        let line = text.matches('\n').count() as u32;
+        let end = Token { kind: TokenKind::Eof, len: 0, start: text.len(), line };
         assert_eq!(cursor.advance_token(), end);
         assert_eq!((cursor.position(), cursor.as_str(), cursor.refusal()), (text.len(), "", None));
     }
@@ -101,7 +102,7 @@ fn characters_ahead() {
 
 #[test]
 fn a_string_after_hashes() {
-    let mut cursor = Cursor::new("a ##\"b /*\"# c", No, NONE).unwrap();
+    let mut cursor = Cursor::new("a ##\"b\n/*\"# c", No, NONE).unwrap();
     cursor.advance_token();
     cursor.advance_token();
     let before = cursor.clone();
@@ -109,18 +110,22 @@ fn a_string_after_hashes() {
     assert_eq!(cursor.guarded_double_quoted_string(), Some(found));
     assert_eq!((cursor.position(), cursor.as_str()), (11, " c"));
     let rest = [
-        Token { kind: TokenKind::Whitespace, len: 1, start: 11 },
-        Token { kind: TokenKind::Ident, len: 1, start: 12 },
-        Token { kind: TokenKind::Eof, len: 0, start: 13 },
+        Token { kind: TokenKind::Whitespace, len: 1, start: 11, line: 1 },
+        Token { kind: TokenKind::Ident, len: 1, start: 12, line: 1 },
+        Token { kind: TokenKind::Eof, len: 0, start: 13, line: 1 },
     ];
     assert_eq!(rest.map(|_| cursor.advance_token()), rest);
     // The clone stands where it stood, and reads the tokens that are there without it.
     let mut before = before;
-    let prefix = Token { kind: TokenKind::GuardedStrPrefix, len: 2, start: 2 };
+    let prefix = Token { kind: TokenKind::GuardedStrPrefix, len: 2, start: 2, line: 0 };
     assert_eq!((before.position(), before.advance_token()), (2, prefix));
     let kind = LiteralKind::Str { terminated: true };
     let string = TokenKind::Literal { kind, suffix_start: 6 };
-    assert_eq!(before.advance_token(), Token { kind: string, len: 6, start: 4 });
+    assert_eq!(before.advance_token(), Token { kind: string, len: 6, start: 4, line: 0 });
+    assert_eq!(
+        before.advance_token(),
+        Token { kind: TokenKind::Pound, len: 1, start: 10, line: 1 }
+    );
     // One that does not end, and a quote without hashes.
     for (text, n_hashes, terminated) in [("#\"a", 1, false), ("\"a\"b", 0, true)] {
         let mut cursor = Cursor::new(text, No, NONE).unwrap();
@@ -133,7 +138,7 @@ fn a_string_after_hashes() {
 /// Hashes that begin no string are passed, and belong to the next token.
 #[test]
 fn hashes_that_were_passed() {
-    let mut cursor = Cursor::new("a###12u8 b", No, NONE).unwrap();
+    let mut cursor = Cursor::new("\n###12u8 b", No, NONE).unwrap();
     assert_eq!(cursor.guarded_double_quoted_string(), None);
     assert_eq!(cursor.position(), 0);
     cursor.advance_token();
@@ -142,20 +147,22 @@ fn hashes_that_were_passed() {
     assert_eq!(cursor.guarded_double_quoted_string(), None);
     assert_eq!(cursor.position(), 4);
     let token = cursor.advance_token();
-    assert_eq!((token.start, token.len), (1, 7));
+    assert_eq!((token.start, token.len, token.line), (1, 7, 1));
     assert!(matches!(token.kind, TokenKind::Literal { suffix_start: 5, .. }), "{token:?}");
-    assert_eq!(cursor.advance_token(), Token { kind: TokenKind::Whitespace, len: 1, start: 8 });
+    let blank = Token { kind: TokenKind::Whitespace, len: 1, start: 8, line: 1 };
+    assert_eq!(cursor.advance_token(), blank);
     // At the end no token takes them.
     let mut cursor = Cursor::new("##", No, NONE).unwrap();
     assert_eq!(cursor.guarded_double_quoted_string(), None);
-    assert_eq!(cursor.advance_token(), Token { kind: TokenKind::Eof, len: 0, start: 2 });
+    let end = Token { kind: TokenKind::Eof, len: 0, start: 2, line: 0 };
+    assert_eq!(cursor.advance_token(), end);
 }
 
 /// Past the first block too, and the tokens after a string are read from there on.
 #[test]
 fn strings_between_many_tokens() {
     for before in [0, 1, 255, 256, 257, 1000] {
-        let text = format!("{}#\"a\"#{}", ";".repeat(before), ";#".repeat(before));
+        let text = format!("{}#\"\n\"#{}", ";".repeat(before), ";#".repeat(before));
         let mut cursor = Cursor::new(&text, No, NONE).unwrap();
         for _ in 0..before {
             assert_eq!(cursor.advance_token().kind, TokenKind::Semi);
@@ -164,9 +171,9 @@ fn strings_between_many_tokens() {
         assert_eq!(cursor.guarded_double_quoted_string(), Some(found));
         for at in 0..before {
             let start = before + 5 + 2 * at;
-            assert_eq!(cursor.advance_token(), Token { kind: TokenKind::Semi, len: 1, start });
-            let start = start + 1;
-            assert_eq!(cursor.advance_token(), Token { kind: TokenKind::Pound, len: 1, start });
+            let semi = Token { kind: TokenKind::Semi, len: 1, start, line: 1 };
+            let pound = Token { kind: TokenKind::Pound, len: 1, start: start + 1, line: 1 };
+            assert_eq!((cursor.advance_token(), cursor.advance_token()), (semi, pound));
         }
         assert_eq!((cursor.advance_token().kind, cursor.refusal()), (TokenKind::Eof, None));
     }

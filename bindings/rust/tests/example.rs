@@ -47,7 +47,17 @@ fn a_text_is_keyed() {
     let mut lines = out.lines();
     assert_eq!(lines.next(), Some("key: \\nx\\n=\\n1;\\n"));
     assert_eq!(lines.clone().count(), 10);
-    assert_eq!(lines.nth(1), Some("Ident, length 1, start 7"));
+    assert_eq!(lines.nth(1), Some("Ident, length 1, start 7, line 0"));
+    // The first line is line 0, and a comment that goes on over its end is in it.
+    let (status, out, said) = run("/* a\n */ x\n\ny");
+    assert_eq!((status, said.as_str()), (Some(0), ""));
+    for token in [
+        "BlockComment { doc_style: None, terminated: true }, length 8, start 0, line 0",
+        "Ident, length 1, start 9, line 1",
+        "Ident, length 1, start 12, line 3",
+    ] {
+        assert!(out.lines().any(|line| line == token), "{out}");
+    }
 }
 
 /// As source the comment would begin in the first line, and these two would have one key.
@@ -86,7 +96,7 @@ fn with_lists_it_is() {
         let key = format!("key: f!(\\'\\xc3\\xa9\\n\\\"\\' // limit {limit}\\\");");
         assert_eq!(out.lines().next(), Some(key.as_str()));
         assert!(
-            out.contains("\nLifetime { starts_with_number: false }, length 3, start 3\n"),
+            out.contains("\nLifetime { starts_with_number: false }, length 3, start 3, line 0\n"),
             "{out}"
         );
     }

@@ -3,12 +3,12 @@
 
 mod common;
 
-use common::{by_rust, every_call_refuses};
+use common::{UNTOUCHED, by_rust, every_call_refuses};
 use lovemudarn::{
-    Cause, Cursor, FrontmatterAllowed::No, ListName, Lists, MAX_PAIRS, Refusal, Run, advance_token,
-    check, guarded_double_quoted_string, is_emoji_char, is_id_continue, is_id_start, is_ident, key,
-    key_into, needs_lists, strip_shebang, token_of, tokenize, tokenize_into, tokens_from,
-    validate_raw_str,
+    Cause, Cursor, FrontmatterAllowed::No, ListName, Lists, MAX_PAIRS, NUMBERS_OF_A_TOKEN, Refusal,
+    Run, advance_token, check, guarded_double_quoted_string, is_emoji_char, is_id_continue,
+    is_id_start, is_ident, key, key_into, needs_lists, strip_shebang, token_of, tokenize,
+    tokenize_into, tokens_from, validate_raw_str,
 };
 
 const NONE: &Lists = &Lists::EMPTY;
@@ -17,10 +17,10 @@ const NONE: &Lists = &Lists::EMPTY;
 fn no_tokens(text: &[u8], lists: &Lists, refusal: Refusal) {
     assert_eq!(tokenize(text, No, lists).map(Iterator::count), Err(refusal));
     assert_eq!(Cursor::new(text, No, lists).map(|cursor| cursor.position()), Err(refusal));
-    let mut records = [[7; 4]; 3];
+    let mut records = [UNTOUCHED; 3];
     assert_eq!(tokenize_into(text, No, lists, &mut records), Err(refusal));
     assert_eq!(tokens_from(text, lists, 99, No, &mut records), Err(refusal));
-    assert_eq!(records, [[7; 4]; 3]);
+    assert_eq!(records, [UNTOUCHED; 3]);
 }
 
 #[test]
@@ -160,7 +160,7 @@ fn positions() {
     for at in (0..20).chain([usize::MAX]) {
         let one = advance_token(text, NONE, at, No);
         let guarded = guarded_double_quoted_string(text, NONE, at);
-        let mut records = [[7; 4]; 3];
+        let mut records = [UNTOUCHED; 3];
         let run = tokens_from(text, NONE, at, No, &mut records);
         if text.is_char_boundary(at) {
             assert!(one.is_ok() && run.is_ok() && guarded == Ok((None, at)));
@@ -168,7 +168,7 @@ fn positions() {
             let refusal = Refusal::Position { at };
             assert_eq!((refusal.number(), refusal.place()), (4, Some(at)));
             assert_eq!((one, run, guarded), (Err(refusal), Err(refusal), Err(refusal)));
-            assert_eq!(records, [[7; 4]; 3]);
+            assert_eq!(records, [UNTOUCHED; 3]);
         }
     }
 }
@@ -176,16 +176,16 @@ fn positions() {
 #[test]
 fn too_few_slots_write_nothing() {
     let text = "a + 1;";
-    let mut records = [[7; 4]; 9];
+    let mut records = [UNTOUCHED; 9];
     for slots in 0..6 {
         let refusal = Refusal::Slots { needed: 6 };
         assert_eq!((refusal.number(), refusal.needed()), (5, Some(6)));
         assert_eq!(tokenize_into(text, No, NONE, &mut records[..slots]), Err(refusal));
-        assert_eq!(records, [[7; 4]; 9]);
+        assert_eq!(records, [UNTOUCHED; 9]);
     }
     // Past the answer the records keep their values.
     assert_eq!(tokenize_into(text, No, NONE, &mut records[..8]), Ok(6));
-    assert_eq!(records[6..], [[7; 4]; 3]);
+    assert_eq!(records[6..], [UNTOUCHED; 3]);
     let tokens: Vec<_> = records[..6].iter().map(|&record| token_of(record).unwrap()).collect();
     assert_eq!(tokens, tokenize(text, No, NONE).unwrap().collect::<Vec<_>>());
     assert_eq!(
@@ -197,20 +197,20 @@ fn too_few_slots_write_nothing() {
 
 #[test]
 fn a_run_goes_on_where_it_ended() {
-    let text = "a + é1;";
-    let mut all = [[7; 4]; 9];
-    assert_eq!(tokenize_into(text, No, NONE, &mut all), Ok(7));
+    let text = "a + é1\n;";
+    let mut all = [UNTOUCHED; 9];
+    assert_eq!(tokenize_into(text, No, NONE, &mut all), Ok(8));
     let (mut at, mut count) = (0, 0);
     while at < text.len() {
-        let mut records = [[7; 4]; 4];
+        let mut records = [UNTOUCHED; 4];
         let run = tokens_from(text, NONE, at, No, &mut records[..3]).unwrap();
-        assert_eq!(run.tokens, 3.min(7 - count));
+        assert_eq!(run.tokens, 3.min(8 - count));
         assert_eq!(records[..run.tokens], all[count..count + run.tokens]);
         // Past the answer the records keep their values.
-        assert!(records[run.tokens..].iter().all(|&record| record == [7; 4]));
+        assert!(records[run.tokens..].iter().all(|&record| record == UNTOUCHED));
         (at, count) = (run.next, count + run.tokens);
     }
-    assert_eq!(count, 7);
+    assert_eq!(count, 8);
     let end = Run { tokens: 0, next: text.len(), frontmatter: No };
     assert_eq!(tokens_from(text, NONE, text.len(), No, &mut all), Ok(end));
     let none = Run { tokens: 0, next: 2, frontmatter: No };
@@ -277,7 +277,12 @@ fn prefixes() {
 
 #[test]
 fn a_record_of_no_token() {
-    for record in [[43, 0, 1, 0], [u32::MAX; 4], [64 * 3, 0, 1, 0], [4 + 64, 0, 1, 0]] {
+    for record in [
+        [43, 0, 1, 0, 0],
+        [u32::MAX; NUMBERS_OF_A_TOKEN],
+        [64 * 3, 0, 1, 0, 0],
+        [4 + 64, 0, 1, 0, 0],
+    ] {
         assert!(matches!(token_of(record), Err(Refusal::Unknown { number: 0, .. })));
     }
 }

@@ -46,7 +46,7 @@ fn rows() {
         ("0x1e3", literal(int(Base::Hexadecimal), 5), 5),
     ];
     for (text, kind, len) in rows {
-        assert_eq!(first(text, No), Token { kind, len, start: 0 }, "{text:?}");
+        assert_eq!(first(text, No), Token { kind, len, start: 0, line: 0 }, "{text:?}");
     }
     let kind = TokenKind::Frontmatter {
         has_invalid_preceding_whitespace: false,
@@ -59,7 +59,7 @@ fn rows() {
         ("--- a\nb---  ---\nz", 15),
     ];
     for (text, len) in rows {
-        assert_eq!(first(text, Yes), Token { kind, len, start: 0 }, "{text:?}");
+        assert_eq!(first(text, Yes), Token { kind, len, start: 0, line: 0 }, "{text:?}");
         assert_eq!(first(text, No).kind, TokenKind::Minus);
     }
 }
@@ -167,6 +167,6 @@ fn the_flag_goes_on() {
     let blank = advance_token("\n---\n", NONE, 0, Yes).unwrap();
     assert_eq!((blank.token.kind, blank.next, blank.frontmatter), (TokenKind::Whitespace, 1, Yes));
     let end = advance_token(text, NONE, text.len(), Yes).unwrap();
-    assert_eq!(end.token, Token { kind: TokenKind::Eof, len: 0, start: text.len() });
+    assert_eq!(end.token, Token { kind: TokenKind::Eof, len: 0, start: text.len(), line: 4 });
     assert_eq!((end.next, end.frontmatter), (text.len(), Yes));
 }

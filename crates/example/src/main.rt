@@ -101,7 +101,20 @@ fn blank() -> Token {
     }
 }
 
-// The tokens of a text of at most 64: a line each, with the number of its kind, its length, its start and its line.
+// A line for a token: the number of its kind, its length, its start and its line.
+fn say_token(token: Token) {
+    let kind = token.kind;
+    io::print_decimal(STDOUT_FILENO, kinds::kind_number(kind) as u64);
+    say(b" ");
+    io::print_decimal(STDOUT_FILENO, token.len as u64);
+    say(b" ");
+    io::print_decimal(STDOUT_FILENO, token.start as u64);
+    say(b" ");
+    io::print_decimal(STDOUT_FILENO, token.line as u64);
+    say(b"\n");
+}
+
+// The tokens of a text of at most 64, a line each.
 fn say_tokens(text: &[u8]) {
     let none = [0u32; 0];
     let records = list::tokenize_64(text, &none, &none, &none, false, blank());
@@ -116,16 +129,7 @@ fn say_tokens(text: &[u8]) {
         if n <= i {
             return;
         }
-        let token = tokens[i];
-        let kind = token.kind;
-        io::print_decimal(STDOUT_FILENO, kinds::kind_number(kind) as u64);
-        say(b" ");
-        io::print_decimal(STDOUT_FILENO, token.len as u64);
-        say(b" ");
-        io::print_decimal(STDOUT_FILENO, token.start as u64);
-        say(b" ");
-        io::print_decimal(STDOUT_FILENO, token.line as u64);
-        say(b"\n");
+        say_token(tokens[i]);
         i += 1;
     }
 }

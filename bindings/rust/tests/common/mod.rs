@@ -3,8 +3,8 @@
 use std::str::from_utf8;
 
 use lovemudarn::{
-    Cause, Cursor, FrontmatterAllowed, Lists, Refusal, advance_token, check,
-    guarded_double_quoted_string, is_ident, key, key_into, needs_lists, needs_newer_lists,
+    Cause, Cursor, FrontmatterAllowed, Lists, NUMBERS_OF_A_TOKEN, Record, Refusal, advance_token,
+    check, guarded_double_quoted_string, is_ident, key, key_into, needs_lists, needs_newer_lists,
     strip_shebang, tokenize, tokenize_into, tokens_from, validate_raw_str,
 };
 
@@ -23,6 +23,9 @@ pub fn by_rust(text: &[u8]) -> Option<Refusal> {
     };
     Some(Refusal::NotUtf8 { at, cause })
 }
+
+/// A record before a call that may write it.
+pub const UNTOUCHED: Record = [7; NUMBERS_OF_A_TOKEN];
 
 /// That every call that takes a text refuses this one so, before all that comes after 2, and writes
 /// nothing. The lists are good ones.
@@ -44,7 +47,7 @@ pub fn every_call_refuses(text: &[u8], lists: &Lists, refusal: Refusal) {
     for at in [0, 99] {
         assert_eq!(guarded_double_quoted_string(text, lists, at), Err(refusal), "{text:x?}");
     }
-    let mut records = [[7; 4]; 3];
+    let mut records = [UNTOUCHED; 3];
     for flag in [FrontmatterAllowed::No, FrontmatterAllowed::Yes] {
         let tokens = tokenize(text, flag, lists).map(Iterator::count);
         assert_eq!(tokens, Err(refusal), "{text:x?}");
@@ -60,5 +63,5 @@ pub fn every_call_refuses(text: &[u8], lists: &Lists, refusal: Refusal) {
             assert_eq!(run, Err(refusal), "{text:x?}");
         }
     }
-    assert_eq!(records, [[7; 4]; 3]);
+    assert_eq!(records, [UNTOUCHED; 3]);
 }

@@ -6,10 +6,10 @@ use Rattle.example.proofs.say_tokens.Statement.{statement}
 use Rattle.example.proofs.say_tokens.Tie as tie
 
 abbrev Inv-loop : tie.InvT-loop
-Inv-loop text n tokens i₀ t10 t11 t12 i = i ≤ 64
+Inv-loop text n tokens i₀ i = i ≤ 64
 
 abbrev μ-loop : tie.MeasureT-loop
-μ-loop text n tokens i₀ t10 t11 t12 i = 64 - i
+μ-loop text n tokens i₀ i = 64 - i
 
 slice-aggregate-tokenize-64 : tie.Need-slice-aggregate-tokenize-64 Inv-loop μ-loop
 slice-aggregate-tokenize-64 c = search needs
@@ -44,47 +44,14 @@ loop-holds c = omega arith
 returns-2 : tie.Need-returns-2 Inv-loop μ-loop
 returns-2 c = search needs
 
-mul-token : tie.Need-mul-token Inv-loop μ-loop
-mul-token c = search needs
+mul-say-token : tie.Need-mul-say-token Inv-loop μ-loop
+mul-say-token c = search needs
 
-array-copy-out-token : tie.Need-array-copy-out-token Inv-loop μ-loop
-array-copy-out-token c = search needs
+array-copy-out-say-token : tie.Need-array-copy-out-say-token Inv-loop μ-loop
+array-copy-out-say-token c = search needs
 
-kind-number-requires : tie.Need-kind-number-requires Inv-loop μ-loop
-kind-number-requires c κs = search needs
-
-cast-print-decimal : tie.Need-cast-print-decimal Inv-loop μ-loop
-cast-print-decimal c = search needs
-
-print-decimal-requires : tie.Need-print-decimal-requires Inv-loop μ-loop
-print-decimal-requires c κs = search needs
-
-slice-aggregate-say : tie.Need-slice-aggregate-say Inv-loop μ-loop
-slice-aggregate-say c = search needs
-
-say-requires : tie.Need-say-requires Inv-loop μ-loop
-say-requires c κs = search needs
-
-cast-print-decimal-2 : tie.Need-cast-print-decimal-2 Inv-loop μ-loop
-cast-print-decimal-2 c = search needs
-
-print-decimal-requires-2 : tie.Need-print-decimal-requires-2 Inv-loop μ-loop
-print-decimal-requires-2 c κs = search needs
-
-slice-aggregate-say-2 : tie.Need-slice-aggregate-say-2 Inv-loop μ-loop
-slice-aggregate-say-2 c = search needs
-
-say-requires-2 : tie.Need-say-requires-2 Inv-loop μ-loop
-say-requires-2 c κs = search needs
-
-print-decimal-requires-3 : tie.Need-print-decimal-requires-3 Inv-loop μ-loop
-print-decimal-requires-3 c κs = search needs
-
-slice-aggregate-say-3 : tie.Need-slice-aggregate-say-3 Inv-loop μ-loop
-slice-aggregate-say-3 c = search needs
-
-say-requires-3 : tie.Need-say-requires-3 Inv-loop μ-loop
-say-requires-3 c κs = search needs
+say-token-requires : tie.Need-say-token-requires Inv-loop μ-loop
+say-token-requires c κs = search needs
 
 add-i : tie.Need-add-i Inv-loop μ-loop
 add-i c = search needs
@@ -115,20 +82,9 @@ say-tokens-spec =
     returns
     loop-holds
     returns-2
-    mul-token
-    array-copy-out-token
-    kind-number-requires
-    cast-print-decimal
-    print-decimal-requires
-    slice-aggregate-say
-    say-requires
-    cast-print-decimal-2
-    print-decimal-requires-2
-    slice-aggregate-say-2
-    say-requires-2
-    print-decimal-requires-3
-    slice-aggregate-say-3
-    say-requires-3
+    mul-say-token
+    array-copy-out-say-token
+    say-token-requires
     add-i
     loop-less
     loop-again
