@@ -42,9 +42,8 @@ pub struct Cursor<'a> {
     lists: Lists<'a>,
     /// Where the cursor stands: a character begins there, or the text ends.
     at: usize,
-    /// The line there, counted from the text: what the archive says of the next token has to agree, and at
-    /// the end it says nothing.
-    line: u32,
+    /// A place at or before it and the line there: the archive's, of the token given last.
+    last: (usize, u32),
     /// Where the next token starts: before `at` only where hashes were passed that begin no string.
     start: usize,
     frontmatter: FrontmatterAllowed,
@@ -78,7 +77,7 @@ impl<'a> Cursor<'a> {
             text,
             lists: *lists,
             at: 0,
-            line: 0,
+            last: (0, 0),
             start: 0,
             frontmatter,
             block: Arc::new(block),
@@ -124,7 +123,7 @@ impl<'a> Cursor<'a> {
         match self.try_advance_token() {
             Ok(Some(token)) => token,
             Ok(None) | Err(_) => {
-                Token { kind: TokenKind::Eof, len: 0, start: self.at, line: self.line }
+                Token { kind: TokenKind::Eof, len: 0, start: self.at, line: self.line() }
             }
         }
     }
@@ -186,12 +185,14 @@ impl<'a> Cursor<'a> {
         let &record = self.block.get(self.given).ok_or(FOREIGN)?;
         let token = token_of(record)?;
         let next = self.past(token.len)?;
-        if (token.start, token.line) != (self.at, self.line) || token.kind == TokenKind::Eof {
+        let fits = self.fits(token.line);
+        if token.start != self.at || !fits || token.kind == TokenKind::Eof {
             return Err(FOREIGN);
         }
+        self.last = (self.at, token.line);
         let token = self.with_hashes(token);
         self.given += 1;
-        self.move_to(next);
+        self.at = next;
         self.start = next;
         if token.kind != TokenKind::Whitespace {
             self.frontmatter = FrontmatterAllowed::No;
@@ -202,7 +203,7 @@ impl<'a> Cursor<'a> {
     fn take_guarded(&mut self) -> Result<Option<GuardedStr>, Refusal> {
         let (found, next) = guarded_double_quoted_string(self.text, &self.lists, self.at)?;
         let passed = u32::try_from(next - self.at.min(next)).map_err(|_| FOREIGN)?;
-        self.move_to(self.past(passed)?);
+        self.at = self.past(passed)?;
         if found.is_some() {
             self.start = self.at;
         }
@@ -250,13 +251,17 @@ impl<'a> Cursor<'a> {
         Token { kind, len: token.len.saturating_add(hashes), start: self.start, line: token.line }
     }
 
-    /// Moves the cursor to a place further on.
-    fn move_to(&mut self, next: usize) {
-        let passed = self.text.as_bytes().get(self.at..next).unwrap_or_default();
-        let feeds = passed.iter().filter(|&&byte| byte == b'\n').count();
+    /// Whether a line can be the next token's: the first is 0, and lines never fall.
+    fn fits(&self, line: u32) -> bool {
+        if self.at == 0 { line == 0 } else { self.last.1 <= line }
+    }
+
+    /// The line where the cursor stands: the last token's, and the LFs from its start on.
+    fn line(&self) -> u32 {
+        let (from, line) = self.last;
+        let passed = self.text.as_bytes().get(from..self.at).unwrap_or_default();
         // Within the text, and so within 32 bits.
-        self.line = self.line.saturating_add(feeds as u32);
-        self.at = next;
+        line.saturating_add(passed.iter().filter(|&&byte| byte == b'\n').count() as u32)
     }
 }
 
@@ -449,13 +454,16 @@ mod tests {
         ] {
             assert_eq!(spoiled(&text, record(bad)), (7, Some(FOREIGN)), "{bad:?}");
         }
-        // In its line, and in another one.
+        // In its line; in an earlier one than the token before it; in a later one than the one after it.
         let lines = "\n;".repeat(500);
-        assert_eq!(spoiled(&lines, record([14, 0, 1, 7, 4])), (1000, None));
-        for line in [0, 3, 5, u32::MAX] {
-            let bad = [14, 0, 1, 7, line];
-            assert_eq!(spoiled(&lines, record(bad)), (7, Some(FOREIGN)), "{bad:?}");
+        for (line, given) in [(4, (1000, None)), (2, (7, Some(FOREIGN))), (5, (8, Some(FOREIGN)))] {
+            assert_eq!(spoiled(&lines, record([14, 0, 1, 7, line])), given, "line {line}");
         }
+        // The first one in line 0.
+        let first =
+            |line| move |cursor: &mut Cursor| Arc::get_mut(&mut cursor.block).unwrap()[0][4] = line;
+        assert_eq!(spoiled(&lines, first(0)), (1000, None));
+        assert_eq!(spoiled(&lines, first(1)), (0, Some(FOREIGN)));
         // Into a character.
         let text = format!(";;;;;;;é{text}");
         assert_eq!(spoiled(&text, record([41, 0, 1, 7, 0])), (7, Some(FOREIGN)));
