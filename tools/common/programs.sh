@@ -21,7 +21,7 @@ blanks=$(printf ' \t\r\013\014')
 far_blanks=$(printf '\357\273\277 \302\205 \342\200\216 \342\200\217 \342\200\250 \342\200\251')
 limit=65536
 first_run='about 4 to 10 minutes'
-me='' lock=$state/lock building='' part=''
+me='' lock=$state/lock building='' part='' asked=''
 case ${LC_ALL:-${LC_CTYPE:-${LANG:-}}} in *[Uu][Tt][Ff]-8* | *[Uu][Tt][Ff]8*) utf8=1 ;; *) utf8=0 ;; esac
 
 # what goes wrong with the tool, and with reading a file
@@ -241,13 +241,13 @@ program() {
     ${by:-} ${emulator:+"$emulator"} "$tools/lib/ld-linux-x86-64.so.2" --library-path "$tools/lib" "$root/target/bin/$program" "$@"
 }
 
-# run PROGRAM [FILE]: what the program writes for the copy, or for another file; a program that reads with lists is handed the copy of their file. It does not tell
+# run PROGRAM [FILE]: what the program writes for the copy, or for another file; a program that reads with lists is handed the copy of their file, and after it the word in `asked`, if there is one. It does not tell
 # when a write fails, so that it writes into a pipe and cat writes the answer. The first eight bytes are left in `first`.
 run() {
     true >"$room/ended" || full
     case $1 in *_with) with=$room/lists ;; *) with= ;; esac
     {
-        program "$1" ${with:+"$with"} <"${2:-$room/text}" 2>"$room/complaint"
+        program "$1" ${with:+"$with"} ${asked:+"$asked"} <"${2:-$room/text}" 2>"$room/complaint"
         echo $? >"$room/ended"
     } | cat >"$room/answer" || full
     ended=

@@ -7,5 +7,5 @@ fn main() {
     let empty = [0u32; 0];
     let mut buf = printing::input_room();
     let n = io::read_full(STDIN_FILENO, &mut buf);
-    printing::say_tokens(&buf[..n], &empty, &empty, &empty);
+    printing::say_tokens(&buf[..n], &empty, &empty, &empty, false);
 }

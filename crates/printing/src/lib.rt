@@ -1,5 +1,6 @@
 // What the programs write of a text: a line a token, or the key; or, where the text is refused, one line that says why. More than 65,536 bytes are
 // refused as too long. No contract can say what a program writes: the gate compares it.
+ghost use Prim.Native.Nat.{_+_, _≤_};
 ghost use mathlib.Core.Path.{_≡_};
 ghost use lib.ListN.{length};
 ghost use Rattle.token.specs.Lists.{lent};
@@ -40,16 +41,56 @@ fn say_lines(text: &[u8], starts: &[u32], continues: &[u32], emoji: &[u32])
     }
 }
 
-// Writes the tokens of a text, with frontmatter off: a line a token, its kind and its length in bytes separated by a tab. Or why it is refused:
-// `refused`, a tab, the number of the refusal, a tab, the number beside it.
-pub fn say_tokens(text: &[u8], starts: &[u32], continues: &[u32], emoji: &[u32]) {
+// Writes what is in the room, and begins it anew, where one more line might not fit. What is answered is how much is then in it.
+fn emptied(out: &[u8], used: usize) -> usize
+    requires { ⌜ (used ≤ length (now out)) × (44 ≤ length (now out)) ⌝ }
+    ensures { λ r. ⌜ r + 44 ≤ length (now (out .entry)) ⌝ }
+{
+    if out.len() - used < 44 {
+        io::write_all(STDOUT_FILENO, &out[..used]);
+        return 0;
+    }
+    used
+}
+
+// Writes the lines of a text that was checked, each with the line feeds before its token.
+fn say_lined(text: &[u8], starts: &[u32], continues: &[u32], emoji: &[u32])
+    requires { ⌜ Checked (now text) (lent (now starts) (now continues) (now emoji)) ⌝ }
+{
+    let mut out = output_room();
+    let mut used: usize = 0;
+    let mut scan = lexer::start(false);
+    while scan.next < text.len() {
+        scan = lexer::step(text, starts, continues, emoji, scan);
+        let token = scan.token;
+        let kind = token.kind;
+        let free = emptied(&out, used);
+        used = token_line::put_lined(&mut out, free, kind, token.len, token.line);
+    }
+    io::write_all(STDOUT_FILENO, &out[..used]);
+}
+
+// Writes the lines of a text that was checked, in one form or the other.
+fn say_checked(text: &[u8], starts: &[u32], continues: &[u32], emoji: &[u32], lined: bool)
+    requires { ⌜ Checked (now text) (lent (now starts) (now continues) (now emoji)) ⌝ }
+{
+    if lined {
+        say_lined(text, starts, continues, emoji);
+        return;
+    }
+    say_lines(text, starts, continues, emoji);
+}
+
+// Writes the tokens of a text, with frontmatter off: a line a token, its kind and its length in bytes separated by a tab, and, if `lined`, the line feeds
+// before it after one more tab. Or why it is refused: `refused`, a tab, the number of the refusal, a tab, the number beside it.
+pub fn say_tokens(text: &[u8], starts: &[u32], continues: &[u32], emoji: &[u32], lined: bool) {
     if 65536 < text.len() {
         reports::say_bad(Bad::TooLong);
         return;
     }
     match lexer::token_verdict(text, starts, continues, emoji) {
         Verdict::Refused(bad) => reports::say_bad(bad),
-        Verdict::Fine => say_lines(text, starts, continues, emoji),
+        Verdict::Fine => say_checked(text, starts, continues, emoji, lined),
     }
 }
 

@@ -22,8 +22,8 @@ say-bad-requires-2 c κs = search needs
 enum-told : tie.Need-enum-told
 enum-told c = search needs
 
-say-lines-requires : tie.Need-say-lines-requires
-say-lines-requires c κs = search fine-checked
+say-checked-requires : tie.Need-say-checked-requires
+say-checked-requires c κs = search fine-checked
 
 returns-2 : tie.Need-returns-2
 returns-2 c = search needs
@@ -41,6 +41,6 @@ say-tokens-spec =
     enum-known-bad
     say-bad-requires-2
     enum-told
-    say-lines-requires
+    say-checked-requires
     returns-2
     returns-3)
