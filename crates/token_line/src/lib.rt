@@ -95,8 +95,8 @@ pub fn put_lined(out: &mut [u8], at: usize, kind: TokenKind, len: u32, feeds: u3
     requires { ⌜ at + 44 ≤ length (now out) ⌝ }
     ensures { λ r. ⌜ PutFew 44 (linedLine kind len feeds) (now (out .entry)) at (now (out .exit)) r ⌝ }
 {
-    let tab = put_front(out, at, kind, len);
-    let digits = puts::put_byte(out, tab, 9);
-    let end = fields::put_decimal(out, digits, feeds);
+    let past = put_front(out, at, kind, len);
+    let number = puts::put_byte(out, past, 9);
+    let end = fields::put_decimal(out, number, feeds);
     puts::put_byte(out, end, 10)
 }

@@ -23,5 +23,11 @@ fn main() {
     let a = lists.starts;
     let b = lists.continues;
     let c = lists.emoji;
-    printing::say_tokens(&buf[..n], &starts[..a], &continues[..b], &emoji[..c], wants_lines());
+    printing::say_tokens(
+        &buf[..n],
+        &starts[..a],
+        &continues[..b],
+        &emoji[..c],
+        wants_lines(),
+    );
 }
