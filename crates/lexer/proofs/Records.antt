@@ -14,7 +14,7 @@ use Rattle.text.specs.Position.{edge, onBoundary}
 use Rattle.text.proofs.Positions.{boundary-parts}
 use Rattle.text.proofs.Coding.{Fact}
 use Rattle.text.proofs.Texts.{by-chars}
-use Rattle.line_feeds.specs.Feeds.{lineAt}
+use Rattle.line_feeds.specs.Feeds.{feedsBefore}
 use Rattle.token.specs.declared.Token as token
 use Rattle.token.specs.Lists.{Lists}
 use Rattle.token.specs.Advance.{advance}
@@ -55,7 +55,7 @@ module _ (L : Lists) (s : List ℕ) (at : ℕ) (on : Bool) where
       ∙ ap (λ (l : List ℕ). inPlace s at (bareAt L s at on) ∷ placed s (bareAt L s at on .next) (tokens L (bareAt L s at on .on) l)) (sym past-token)
     where
       row : List ℕ → List token.Token
-      row l = record { kind = advance L on l .said .kind; len = tokenSize L on l; start = at; line = lineAt s at } ∷ placed s (at + tokenSize L on l) (tokens L (advance L on l .said .on) (drop (advance L on l .took) l))
+      row l = record { kind = advance L on l .said .kind; len = tokenSize L on l; start = at; line = feedsBefore s at } ∷ placed s (at + tokenSize L on l) (tokens L (advance L on l .said .on) (drop (advance L on l .took) l))
 
 -- characters end where their bytes do
 edge-size : (u v : List ℕ) → edge (u ++ v) (size u) ≡ true

@@ -6,7 +6,7 @@ use mathlib.Core.List.{List}
 use lib.ListN.{length, take, drop, length-take}
 use lib.Seq.{length-take-le}
 use native.Mathlib.Omega.{arith}
-use Rattle.line_feeds.specs.Feeds.{lineFeeds, lineAt}
+use Rattle.line_feeds.specs.Feeds.{lineFeeds, feedsBefore}
 use Rattle.line_feeds.proofs.Feeds.{line-few, line-on}
 use Rattle.token.specs.Lists.{Lists}
 use Rattle.lexer.specs.declared.Bare.{Bare}
@@ -31,15 +31,15 @@ module _ {s : List ℕ} {c : Scan} (l : Lined s c) where
   between = take (c .next - c .token .start) (drop (c .token .start) s)
 
   module _ {n : ℕ} (e : n ≡ lineFeeds between) where
-    pub line-past : c .token .line + n ≡ lineAt s (c .next)
+    pub line-past : c .token .line + n ≡ feedsBefore s (c .next)
     line-past =
         let k : c .token .start + (c .next - c .token .start) ≡ c .next = omega (arith, l .forward) in
-        omega (arith, e, l .line, line-on s (c .token .start) (c .next - c .token .start), ap (lineAt s) k)
+        omega (arith, e, l .line, line-on s (c .token .start) (c .next - c .token .start), ap (feedsBefore s) k)
 
     pub line-narrow : c .token .line + n < 4294967296
     line-narrow = omega (arith, line-past, line-few s (c .next), l .fits)
 
 -- THE STEP: the token found there, in its place
-pub stepped-in : (L : Lists) (s : List ℕ) (c : Scan) {x : Bare} {n : ℕ} → n ≡ lineAt s (c .next) → x ≡ bareAt L s (c .next) (c .on)
+pub stepped-in : (L : Lists) (s : List ℕ) (c : Scan) {x : Bare} {n : ℕ} → n ≡ feedsBefore s (c .next) → x ≡ bareAt L s (c .next) (c .on)
     → record { token = record { kind = x .kind; len = x .len; start = c .next; line = n }; next = x .next; on = x .on } ≡ nextOf L s c
 stepped-in L s c e f = rw (e, f)

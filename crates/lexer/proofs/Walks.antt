@@ -9,7 +9,6 @@ use Rattle.text.specs.Chars.{chars, size, WellFormed}
 use Rattle.text.specs.Position.{edge, onBoundary}
 use Rattle.text.proofs.Positions.{boundary-parts}
 use Rattle.text.proofs.Texts.{size-chars, width-some}
-use Rattle.line_feeds.specs.Feeds.{lineAt}
 use Rattle.token.specs.Lists.{Lists}
 use Rattle.token.specs.Advance.{advance}
 use Rattle.token.specs.Tokens.{tokens, tokensAfter, placed}
@@ -99,9 +98,6 @@ records-end L s c h = end-from L s (c .next) (c .on) h
 module _ (L : Lists) (s : List ℕ) (c : Scan) {x : Scan} (e : x ≡ nextOf L s c) where
   pub begins-there : x .token .start ≡ c .next
   begins-there = ap (λ (y : Scan). y .token .start) e
-
-  pub line-there : x .token .line ≡ lineAt s (c .next)
-  line-there = ap (λ (y : Scan). y .token .line) e
 
   pub next-edged : onBoundary s (c .next) ≡ true → onBoundary s (x .next) ≡ true
   next-edged b = rw e (past-edged L s (c .next) (c .on) refl b)

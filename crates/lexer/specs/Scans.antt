@@ -4,7 +4,7 @@ use mathlib.Core.List.{List}
 use mathlib.Core.Bool.{Bool}
 use lib.ListN.{take, drop}
 use Rattle.text.specs.Chars.{chars, size}
-use Rattle.line_feeds.specs.Feeds.{lineAt}
+use Rattle.line_feeds.specs.Feeds.{feedsBefore}
 use Rattle.token.specs.Lists.{Lists}
 use Rattle.token.specs.declared.Token as token
 use Rattle.token.specs.Advance.{advance}
@@ -27,7 +27,7 @@ bareAt L s at on =
 
 -- a token in its place
 abbrev pub inPlace : (s : List ℕ) (at : ℕ) → Bare → token.Token
-inPlace s at x = record { kind = x .kind; len = x .len; start = at; line = lineAt s at }
+inPlace s at x = record { kind = x .kind; len = x .len; start = at; line = feedsBefore s at }
 
 -- the same with the token in its place
 abbrev pub scanAt : Lists → (s : List ℕ) (at : ℕ) (on : Bool) → Scan

@@ -2,7 +2,7 @@
 use Prim.Native.Nat.{ℕ, zero, suc}
 use mathlib.Core.Bool.{Bool}
 use mathlib.Core.List.{List, [], _∷_}
-use Rattle.line_feeds.specs.Feeds.{lineAt}
+use Rattle.line_feeds.specs.Feeds.{feedsBefore}
 use Rattle.token.specs.declared.Token.{Token}
 use Rattle.token.specs.declared.TokenKind.the-variants.{Eof}
 use Rattle.token.specs.Lists.{Lists}
@@ -15,7 +15,7 @@ beforeIn at line on = record { token = record { kind = Eof; len = 0; start = at;
 
 -- before the token at a position of a text
 abbrev pub beforeOf : (s : List ℕ) (at : ℕ) (on : Bool) → Scan
-beforeOf s at on = beforeIn at (lineAt s at) on
+beforeOf s at on = beforeIn at (feedsBefore s at) on
 
 -- before the first token
 abbrev pub startOf : (on : Bool) → Scan

@@ -14,6 +14,6 @@ abbrev pub lineFeeds : List ℕ → ℕ
 lineFeeds [] = 0
 lineFeeds (b ∷ bs) = feed b + lineFeeds bs
 
--- THE LINE of a place: the LFs among the bytes before it
-abbrev pub lineAt : (s : List ℕ) (at : ℕ) → ℕ
-lineAt s at = lineFeeds (take at s)
+-- THE LINE of a place: how many of the bytes before it are LF
+abbrev pub feedsBefore : (s : List ℕ) (at : ℕ) → ℕ
+feedsBefore s at = lineFeeds (take at s)

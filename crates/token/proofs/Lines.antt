@@ -1,13 +1,13 @@
 -- LINES along the records of a text (document 02, W5): the first token is in line 0; a token's line and the LFs of its own bytes give the next token's line; so
 -- lines never fall; and each is the number of LFs before the token's start.
 use Prim.Native.Nat.{ℕ, _+_, _≤_}
-use mathlib.Core.Path.{_≡_, refl, sym, subst, _∙_}
+use mathlib.Core.Path.{_≡_, refl, subst}
 use mathlib.Core.Bool.{Bool}
 use mathlib.Core.List.{List, [], _∷_, _++_}
 use lib.ListN.{length, take, drop}
 use native.Mathlib.Omega.{arith}
 use Rattle.text.specs.Chars.{chars, size}
-use Rattle.line_feeds.specs.Feeds.{lineFeeds, lineAt}
+use Rattle.line_feeds.specs.Feeds.{lineFeeds, feedsBefore}
 use Rattle.line_feeds.proofs.Feeds.{line-few, line-on}
 use Rattle.token.specs.declared.Token.{Token}
 use Rattle.token.specs.Lists.{Lists}
@@ -20,9 +20,9 @@ ownFeeds s t = lineFeeds (take (t .len) (drop (t .start) s))
 -- tokens of a text in a row of lines, the first of them in `line`
 data Lines (s : List ℕ) : (line : ℕ) → List Token → Type 0 where
   ends : {line : ℕ} → Lines s line []
-  next : {line : ℕ} {t : Token} {ts : List Token} → t .line ≡ line → t .line ≡ lineAt s (t .start) → Lines s (line + ownFeeds s t) ts → Lines s line (t ∷ ts)
+  next : {line : ℕ} {t : Token} {ts : List Token} → t .line ≡ line → t .line ≡ feedsBefore s (t .start) → Lines s (line + ownFeeds s t) ts → Lines s line (t ∷ ts)
 
-placed-lines : (s : List ℕ) (start : ℕ) (ts : List Piece) → Lines s (lineAt s start) (placed s start ts)
+placed-lines : (s : List ℕ) (start : ℕ) (ts : List Piece) → Lines s (feedsBefore s start) (placed s start ts)
 placed-lines s start [] = ends
 placed-lines s start (t ∷ ts) = next refl refl (subst (λ (n : ℕ). Lines s n (placed s (start + size (t .text)) ts)) (line-on s start (size (t .text))) (placed-lines s (start + size (t .text)) ts))
 
@@ -41,7 +41,7 @@ past (u ∷ us) (next e f l) =
 first-of : {s : List ℕ} {line : ℕ} {t : Token} {ts : List Token} → Lines s line (t ∷ ts) → t .line ≡ line
 first-of (next e f l) = e
 
-line-of : {s : List ℕ} {line : ℕ} {t : Token} {ts : List Token} → Lines s line (t ∷ ts) → t .line ≡ lineAt s (t .start)
+line-of : {s : List ℕ} {line : ℕ} {t : Token} {ts : List Token} → Lines s line (t ∷ ts) → t .line ≡ feedsBefore s (t .start)
 line-of (next e f l) = f
 
 second-of : {s : List ℕ} {line : ℕ} {t v : Token} {ts : List Token} → Lines s line (t ∷ v ∷ ts) → v .line ≡ t .line + ownFeeds s t
@@ -59,7 +59,7 @@ module _ (L : Lists) (on : Bool) (s : List ℕ) where
   first-line t ts e = first-of (subst (Lines s 0) e (placed-lines s 0 (tokens L on (chars s))))
 
   -- each is in the line of its start
-  pub own-line : (us : List Token) (t : Token) (ts : List Token) → records L on s ≡ us ++ (t ∷ ts) → t .line ≡ lineAt s (t .start)
+  pub own-line : (us : List Token) (t : Token) (ts : List Token) → records L on s ≡ us ++ (t ∷ ts) → t .line ≡ feedsBefore s (t .start)
   own-line us t ts e = line-of (lines-at us (t ∷ ts) e .lines)
 
   -- and the next one in that line and the LFs of its own bytes

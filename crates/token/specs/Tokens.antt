@@ -4,7 +4,7 @@ use mathlib.Core.List.{List, [], _∷_}
 use mathlib.Core.Bool.{Bool}
 use lib.ListN.{take}
 use Rattle.text.specs.Chars.{chars, size}
-use Rattle.line_feeds.specs.Feeds.{lineAt}
+use Rattle.line_feeds.specs.Feeds.{feedsBefore}
 use Rattle.token.specs.declared.TokenKind.{TokenKind}
 use Rattle.token.specs.declared.Token as token
 use Rattle.token.specs.Lists.{Lists}
@@ -31,7 +31,7 @@ tokens L on cs = tokensAfter L on 0 cs
 -- tokens of a text s in their places, the first of them at `start`; the line of each is the number of LFs before it
 abbrev pub placed : (s : List ℕ) (start : ℕ) → List Piece → List token.Token
 placed s start [] = []
-placed s start (t ∷ ts) = record { kind = t .kind; len = size (t .text); start = start; line = lineAt s start } ∷ placed s (start + size (t .text)) ts
+placed s start (t ∷ ts) = record { kind = t .kind; len = size (t .text); start = start; line = feedsBefore s start } ∷ placed s (start + size (t .text)) ts
 
 -- THE RECORDS of a text's bytes
 abbrev pub records : Lists → (on : Bool) → List ℕ → List token.Token
