@@ -13,10 +13,11 @@ use Rattle.text.specs.Position.{onBoundary}
 use Rattle.token.specs.declared.Token.{Token}
 use Rattle.token.specs.declared.TokenKind.{TokenKind}
 use Rattle.token.specs.Lists.{Lists}
+use Rattle.token.specs.Tokens.{inPlace}
 use Rattle.token.specs.Trivia.{isTrivia}
 use Rattle.token.proofs.Cover.{off-stays}
 use Rattle.lexer.specs.declared.Bare.{Bare}
-use Rattle.lexer.specs.Scans.{bareAt, inPlace, recordsFrom}
+use Rattle.lexer.specs.Scans.{bareAt, recordsFrom}
 use Rattle.lexer.proofs.Walks.{char-there, end-from, ends-past, past-edged, past-inside, records-on, fewer-left}
 use Rattle.token.specs.Broken.{isBroken}
 use Rattle.canon.specs.Keyable.{firstBroken}
@@ -74,14 +75,14 @@ module _ (L : Lists) (s : List ℕ) (at : ℕ) (w : WellFormed s) (b : onBoundar
     unfolding bareAt
     stays-off = ap (λ (y : Bare). y .on) e ∙ off-stays L (chars (drop at s))
 
-    records-step : recordsFrom L s at false ≡ inPlace s at x ∷ recordsFrom L s (x .next) false
-    records-step = records-on L s at false e (char-there s at w b l) ∙ ap (λ (o : Bool). inPlace s at x ∷ recordsFrom L s (x .next) o) stays-off
+    records-step : recordsFrom L s at false ≡ inPlace s at (x .kind) (x .len) ∷ recordsFrom L s (x .next) false
+    records-step = records-on L s at false e (char-there s at w b l) ∙ ap (λ (o : Bool). inPlace s at (x .kind) (x .len) ∷ recordsFrom L s (x .next) o) stays-off
 
     pub ends-there : x .next ≡ at + x .len
     ends-there = ends-past L s at false e
 
     -- the token's bytes are the text's from here to the next position
-    own-bytes : meaning.bytesOf s (inPlace s at x) ≡ take (x .next - at) (drop at s)
+    own-bytes : meaning.bytesOf s (inPlace s at (x .kind) (x .len)) ≡ take (x .next - at) (drop at s)
     own-bytes =
         let n : x .len ≡ x .next - at = omega (arith, ends-there) in
         ap (λ (k : ℕ). take k (drop at s)) n
@@ -89,7 +90,7 @@ module _ (L : Lists) (s : List ℕ) (at : ℕ) (w : WellFormed s) (b : onBoundar
     pub key-step : (g : Bool) → keyFrom L s g at ≡ piece (isTrivia (x .kind)) g (take (x .next - at) (drop at s)) ++ keyFrom L s (isTrivia (x .kind)) (x .next)
     key-step g =
         ap (λ (ts : List Token). written (left g (itemsOf s ts))) records-step
-        ∙ one-left (isTrivia (x .kind)) g (x .kind) (meaning.bytesOf s (inPlace s at x)) (itemsOf s (recordsFrom L s (x .next) false))
+        ∙ one-left (isTrivia (x .kind)) g (x .kind) (meaning.bytesOf s (inPlace s at (x .kind) (x .len))) (itemsOf s (recordsFrom L s (x .next) false))
         ∙ ap (λ (bs : List ℕ). piece (isTrivia (x .kind)) g bs ++ keyFrom L s (isTrivia (x .kind)) (x .next)) own-bytes
 
     pub broken-step : firstBroken (recordsFrom L s at false) ≡ pick (isBroken (x .kind)) (find.at at) (firstBroken (recordsFrom L s (x .next) false))

@@ -14,13 +14,12 @@ use Rattle.text.specs.Position.{edge, onBoundary}
 use Rattle.text.proofs.Positions.{boundary-parts}
 use Rattle.text.proofs.Coding.{Fact}
 use Rattle.text.proofs.Texts.{by-chars}
-use Rattle.line_feeds.specs.Feeds.{feedsBefore}
 use Rattle.token.specs.declared.Token as token
 use Rattle.token.specs.Lists.{Lists}
 use Rattle.token.specs.Advance.{advance}
-use Rattle.token.specs.Tokens.{tokens, placed}
+use Rattle.token.specs.Tokens.{tokens, inPlace, placed}
 use Rattle.token.proofs.Cover.{tokens-step, advance-room, size-append}
-use Rattle.lexer.specs.Scans.{tokenSize, bareAt, inPlace, recordsFrom}
+use Rattle.lexer.specs.Scans.{tokenSize, bareAt, recordsFrom}
 
 -- past the bytes of the first k characters, the other characters are left
 pub chars-past : (s : List ℕ) (k : ℕ) → k ≤ length (chars s) → chars (drop (size (take k (chars s))) s) ≡ drop k (chars s)
@@ -48,14 +47,14 @@ module _ (L : Lists) (s : List ℕ) (at : ℕ) (on : Bool) where
       ∙ chars-past (drop at s) (advance L on (chars (drop at s)) .took) (advance-room L on (chars (drop at s)))
 
   -- at a character: the token there in its place, and then the records from the next position on
-  pub step-records : (c : ℕ) (cs : List ℕ) → chars (drop at s) ≡ c ∷ cs → recordsFrom L s at on ≡ inPlace s at (bareAt L s at on) ∷ recordsFrom L s (bareAt L s at on .next) (bareAt L s at on .on)
+  pub step-records : (c : ℕ) (cs : List ℕ) → chars (drop at s) ≡ c ∷ cs → recordsFrom L s at on ≡ inPlace s at (bareAt L s at on .kind) (bareAt L s at on .len) ∷ recordsFrom L s (bareAt L s at on .next) (bareAt L s at on .on)
   unfolding bareAt tokenSize
   step-records c cs e =
       ap (λ (l : List ℕ). placed s at (tokens L on l)) e ∙ ap (placed s at) (tokens-step L on c cs) ∙ sym (ap row e)
-      ∙ ap (λ (l : List ℕ). inPlace s at (bareAt L s at on) ∷ placed s (bareAt L s at on .next) (tokens L (bareAt L s at on .on) l)) (sym past-token)
+      ∙ ap (λ (l : List ℕ). inPlace s at (bareAt L s at on .kind) (bareAt L s at on .len) ∷ placed s (bareAt L s at on .next) (tokens L (bareAt L s at on .on) l)) (sym past-token)
     where
       row : List ℕ → List token.Token
-      row l = record { kind = advance L on l .said .kind; len = tokenSize L on l; start = at; line = feedsBefore s at } ∷ placed s (at + tokenSize L on l) (tokens L (advance L on l .said .on) (drop (advance L on l .took) l))
+      row l = inPlace s at (advance L on l .said .kind) (tokenSize L on l) ∷ placed s (at + tokenSize L on l) (tokens L (advance L on l .said .on) (drop (advance L on l .took) l))
 
 -- characters end where their bytes do
 edge-size : (u v : List ℕ) → edge (u ++ v) (size u) ≡ true

@@ -11,12 +11,12 @@ use Rattle.text.proofs.Positions.{boundary-parts}
 use Rattle.text.proofs.Texts.{size-chars, width-some}
 use Rattle.token.specs.Lists.{Lists}
 use Rattle.token.specs.Advance.{advance}
-use Rattle.token.specs.Tokens.{tokens, tokensAfter, placed}
+use Rattle.token.specs.Tokens.{tokens, tokensAfter, inPlace, placed}
 use Rattle.token.proofs.Cover.{advance-some, size-append}
 use Rattle.lexer.specs.declared.Bare.{Bare}
 use Rattle.lexer.specs.declared.Scan.{Scan}
 use Rattle.lexer.specs.Checked.{Checked}
-use Rattle.lexer.specs.Scans.{tokenSize, bareAt, inPlace, recordsFrom}
+use Rattle.lexer.specs.Scans.{tokenSize, bareAt, recordsFrom}
 use Rattle.lexer.specs.Steps.{beforeOf, startOf, nextOf, recordsPast}
 use Rattle.lexer.specs.Ready.{Ready}
 use Rattle.lexer.proofs.Records.{past-token, step-records, next-boundary}
@@ -79,7 +79,7 @@ module _ (L : Lists) (s : List ℕ) (at : ℕ) (on : Bool) {x : Bare} (e : x ≡
   -- at a character
   module _ (t : Char (chars (drop at s))) where
     -- the token in its place, and then those past it
-    pub records-on : recordsFrom L s at on ≡ inPlace s at x ∷ recordsFrom L s (x .next) (x .on)
+    pub records-on : recordsFrom L s at on ≡ inPlace s at (x .kind) (x .len) ∷ recordsFrom L s (x .next) (x .on)
     records-on = rw e (step-records L s at on (t .0) (t .1) (t .2))
 
     -- fewer characters are left

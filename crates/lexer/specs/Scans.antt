@@ -4,11 +4,10 @@ use mathlib.Core.List.{List}
 use mathlib.Core.Bool.{Bool}
 use lib.ListN.{take, drop}
 use Rattle.text.specs.Chars.{chars, size}
-use Rattle.line_feeds.specs.Feeds.{feedsBefore}
 use Rattle.token.specs.Lists.{Lists}
 use Rattle.token.specs.declared.Token as token
 use Rattle.token.specs.Advance.{advance}
-use Rattle.token.specs.Tokens.{tokens, placed}
+use Rattle.token.specs.Tokens.{tokens, inPlace, placed}
 use Rattle.cursor.specs.declared.Cursor.{Cursor}
 use Rattle.cursor.specs.declared.Kinded.{Kinded}
 use Rattle.cursor.specs.declared.Kinded.the-variants.{Plain, Literal}
@@ -25,15 +24,11 @@ bareAt L s at on =
     let cs = chars (drop at s) in
     record { kind = advance L on cs .said .kind; len = tokenSize L on cs; next = at + tokenSize L on cs; on = advance L on cs .said .on }
 
--- a token in its place
-abbrev pub inPlace : (s : List ℕ) (at : ℕ) → Bare → token.Token
-inPlace s at x = record { kind = x .kind; len = x .len; start = at; line = feedsBefore s at }
-
 -- the same with the token in its place
 abbrev pub scanAt : Lists → (s : List ℕ) (at : ℕ) (on : Bool) → Scan
 scanAt L s at on =
     let x = bareAt L s at on in
-    record { token = inPlace s at x; next = x .next; on = x .on }
+    record { token = inPlace s at (x .kind) (x .len); next = x .next; on = x .on }
 
 -- the records of a text from a position on
 abbrev pub recordsFrom : Lists → (s : List ℕ) (at : ℕ) (on : Bool) → List token.Token

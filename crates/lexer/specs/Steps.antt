@@ -2,10 +2,10 @@
 use Prim.Native.Nat.{ℕ, zero, suc}
 use mathlib.Core.Bool.{Bool}
 use mathlib.Core.List.{List, [], _∷_}
-use Rattle.line_feeds.specs.Feeds.{feedsBefore}
 use Rattle.token.specs.declared.Token.{Token}
 use Rattle.token.specs.declared.TokenKind.the-variants.{Eof}
 use Rattle.token.specs.Lists.{Lists}
+use Rattle.token.specs.Tokens.{inPlace}
 use Rattle.lexer.specs.declared.Scan.{Scan}
 use Rattle.lexer.specs.Scans.{scanAt, recordsFrom}
 
@@ -15,7 +15,7 @@ beforeIn at line on = record { token = record { kind = Eof; len = 0; start = at;
 
 -- before the token at a position of a text
 abbrev pub beforeOf : (s : List ℕ) (at : ℕ) (on : Bool) → Scan
-beforeOf s at on = beforeIn at (feedsBefore s at) on
+beforeOf s at on = record { token = inPlace s at Eof 0; next = at; on = on }
 
 -- before the first token
 abbrev pub startOf : (on : Bool) → Scan

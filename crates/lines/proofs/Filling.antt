@@ -12,9 +12,10 @@ use Rattle.text.proofs.Texts.{width-some}
 use Rattle.token.specs.declared.Token.{Token}
 use Rattle.token.specs.Lists.{Lists}
 use Rattle.token.specs.Advance.{advance}
+use Rattle.token.specs.Tokens.{inPlace}
 use Rattle.token.proofs.Cover.{advance-some, off-stays}
 use Rattle.lexer.specs.declared.Bare.{Bare}
-use Rattle.lexer.specs.Scans.{tokenSize, bareAt, inPlace, recordsFrom}
+use Rattle.lexer.specs.Scans.{tokenSize, bareAt, recordsFrom}
 use Rattle.lexer.proofs.Walks.{Char, none-from, ends-past, records-on, fewer-left}
 use Rattle.puts.specs.Put.{PutFew}
 use Rattle.puts.proofs.Joining.{Joining, joining-none, joined-on, joined-long, joined-all}
@@ -57,8 +58,8 @@ module _ (L : Lists) (s : List ℕ) (at : ℕ) {x : Bare} (e : x ≡ bareAt L s 
   still-off = ap (λ (y : Bare). y .on) e ∙ off-stays L (chars (drop at s))
 
   -- the token here, and those past it
-  more : (x .len ≡ 0 → ⊥) → tokensFrom L s at ≡ inPlace s at x ∷ tokensFrom L s (x .next)
-  more n = records-on L s at false e (there n) ∙ ap (λ (b : Bool). inPlace s at x ∷ recordsFrom L s (x .next) b) still-off
+  more : (x .len ≡ 0 → ⊥) → tokensFrom L s at ≡ inPlace s at (x .kind) (x .len) ∷ tokensFrom L s (x .next)
+  more n = records-on L s at false e (there n) ∙ ap (λ (b : Bool). inPlace s at (x .kind) (x .len) ∷ recordsFrom L s (x .next) b) still-off
 
 -- THE STATE of the loop: from `at` it came to `here` with used bytes put; what is put from here on completes what is put from the start
 pub record Filling (L : Lists) (s : List ℕ) (at : ℕ) (out₀ out : List ℕ) (here used : ℕ) : Type 0 where
@@ -83,7 +84,7 @@ module _ {L : Lists} {s out₀ out : List ℕ} {at here used : ℕ} (f : Filling
 
   pub turned : {x : Bare} {p : List ℕ} {r : ℕ} → 33 ≤ length out - used → x ≡ bareAt L s here false → (x .len ≡ 0 → ⊥) → PutFew 33 (line (x .kind) (x .len)) out used p r → Filling L s at out₀ p (x .next) r
   turned {x} {p} {r} h e n u =
-      let t : Token = inPlace s here x in
+      let t : Token = inPlace s here (x .kind) (x .len) in
       let w : tokensFrom L s here ≡ t ∷ tokensFrom L s (x .next) = more L s here e n in
       let l : length out₀ - used - length (lineOf t) ≡ length out₀ - r = omega (arith, u .put .next) in
       let g : fitting (length out₀ - used) (tokensFrom L s here) ≡ t ∷ fitting (length out₀ - r) (tokensFrom L s (x .next)) =

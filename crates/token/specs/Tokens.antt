@@ -28,10 +28,14 @@ tokensAfter L on zero (c ∷ cs) =
 abbrev pub tokens : Lists → (on : Bool) → List ℕ → List Piece
 tokens L on cs = tokensAfter L on 0 cs
 
--- tokens of a text s in their places, the first of them at `start`; the line of each is the number of LFs before it
+-- a token of a text s in its place: where it starts, and its line, the number of LFs before that
+abbrev pub inPlace : (s : List ℕ) (start : ℕ) → TokenKind → (len : ℕ) → token.Token
+inPlace s start kind len = record { kind = kind; len = len; start = start; line = feedsBefore s start }
+
+-- tokens of a text s in their places, the first of them at `start`
 abbrev pub placed : (s : List ℕ) (start : ℕ) → List Piece → List token.Token
 placed s start [] = []
-placed s start (t ∷ ts) = record { kind = t .kind; len = size (t .text); start = start; line = feedsBefore s start } ∷ placed s (start + size (t .text)) ts
+placed s start (t ∷ ts) = inPlace s start (t .kind) (size (t .text)) ∷ placed s (start + size (t .text)) ts
 
 -- THE RECORDS of a text's bytes
 abbrev pub records : Lists → (on : Bool) → List ℕ → List token.Token
