@@ -32,11 +32,11 @@ isMeaningful k = not (isTrivia k)
 worded : Worded isMeaningful
 worded = record { bare = refl; literal = λ l n. refl; life = λ b. refl }
 
-not-trivia : (L : Lists) (c : ℕ) → is '/' c ≡ false → isWhitespace c ≡ false → Says isMeaningful (plain L c)
+pub not-trivia : (L : Lists) (c : ℕ) → is '/' c ≡ false → isWhitespace c ≡ false → Says isMeaningful (plain L c)
 not-trivia L c s w =
     says-plain worded L c (λ t. false-true (sym s ∙ t)) (λ t. false-true (sym w ∙ t)) (says-symbol isMeaningful (λ d. false) symbols refl refl c refl)
 
-white-not-slash : (c : ℕ) → isWhitespace c ≡ true → is '/' c ≡ false
+pub white-not-slash : (c : ℕ) → isWhitespace c ≡ true → is '/' c ≡ false
 white-not-slash c w = go (is '/' c) refl
   where
     go : (s : Bool) → is '/' c ≡ s → s ≡ false

@@ -1,13 +1,13 @@
 pub mod Short
 mod Stills
-mod Sounds
+pub mod Sounds
 mod Scans
 mod Rules
 pub mod Advance
 pub mod Chain
-mod Spelling
-mod Keyed
-mod Written
+pub mod Spelling
+pub mod Keyed
+pub mod Written
 pub mod Canon
 pub mod Agreeing
 pub mod Mark

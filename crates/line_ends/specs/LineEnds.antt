@@ -1,0 +1,27 @@
+-- Line ends (document 02, W3; the Rust Reference, "Input format": each CR LF is replaced by LF before tokens are read), of bytes or of characters alike.
+use Prim.Native.Nat.{ℕ}
+use mathlib.Core.List.{List, [], _∷_}
+use mathlib.Core.Bool.{Bool, true, not}
+use lib.ListN.{getD}
+use Rattle.basics.specs.Choice.{pick, and}
+use Rattle.eaters.specs.Find.{Place, find}
+use Rattle.eaters.specs.Look.{begins}
+use Rattle.token.specs.Names.{is, 'newline', 'carriage-return'}
+
+-- c is a CR that LF follows
+abbrev pub crLf : (c : ℕ) (after : List ℕ) → Bool
+crLf c after = and (is 'carriage-return' c) (is 'newline' (getD after 0 0))
+
+-- THE REPLACED TEXT: from the left, of each CR LF only the LF stays
+abbrev pub replaced : List ℕ → List ℕ
+replaced [] = []
+replaced (c ∷ cs) = pick (crLf c cs) (replaced cs) (c ∷ replaced cs)
+
+-- no CR LF is there
+abbrev pub noCrLf : List ℕ → Bool
+noCrLf [] = true
+noCrLf (c ∷ cs) = and (not (crLf c cs)) (noCrLf cs)
+
+-- 10: where the first CR CR LF begins
+abbrev pub doubleReturn : List ℕ → Place
+doubleReturn s = find (begins ('carriage-return' ∷ 'carriage-return' ∷ 'newline' ∷ [])) s

@@ -1,0 +1,4 @@
+pub mod Machine
+pub mod Streams
+pub mod Pieces
+pub mod OneShot
