@@ -12,7 +12,7 @@
 
 enum { MOST = 65536, RUN = 2 * LOVEMUDARN_MAX_PAIRS, WIDTH = LOVEMUDARN_NUMBERS_OF_A_TOKEN, MOST_LISTS = 524288 /* no file of lists has more bytes */ };
 
-static uint8_t text[MOST + 1], key[MOST], file[MOST_LISTS + 1];
+static uint8_t text[MOST + 1], replaced[MOST], key[MOST], file[MOST_LISTS + 1];
 static uint32_t slots[WIDTH * MOST]; /* n bytes have at most n tokens */
 static uint32_t starts[RUN], continues[RUN], emoji[RUN];
 static struct lovemudarn_lists_answer has; /* how many numbers the lists have: 0 */
@@ -46,8 +46,11 @@ static int explain(struct lovemudarn_answer a) {
                 : a.second == LOVEMUDARN_CAUSE_CUT ? "it ends inside a character"
                                                    : "a later byte of the character is wrong");
         break;
-    case LOVEMUDARN_BROKEN_TOKEN:
-        fprintf(stderr, "refused 6: the literal or comment that begins at byte %zu does not end\n", a.beside);
+    case LOVEMUDARN_DOUBLE_RETURN:
+        fprintf(stderr, "refused 10: a line ends with CR CR LF at byte %zu; write LF or CR LF\n", a.beside);
+        break;
+    case LOVEMUDARN_BROKEN_TOKEN: /* a place in the replaced text */
+        fprintf(stderr, "refused 6: the literal or comment that begins at byte %zu (each CR LF counted as one) does not end\n", a.beside);
         break;
     default:
         fprintf(stderr, "refused %u: %zu %zu\n", (unsigned)a.number, a.beside, a.second);
@@ -55,7 +58,16 @@ static int explain(struct lovemudarn_answer a) {
     return 1;
 }
 
-/* The place in token i of a character past ASCII that only lists that hold more can judge, or n where there is none: one that is an unknown token; or that begins no
+/* The key is of the text in which each CR LF is LF. This makes it of the first n bytes of the text, and gives its length. */
+static size_t replace(size_t n) {
+    size_t m = 0;
+    for (size_t i = 0; i < n; i++)
+        if (text[i] != '\r' || i + 1 == n || text[i + 1] != '\n')
+            replaced[m++] = text[i];
+    return m;
+}
+
+/* The place in token i of the replaced text of a character past ASCII that only lists that hold more can judge, or n where there is none: one that is an unknown token; or that begins no
  * name by these lists, and stands after a single quote and is not alone before the next, or after r#. */
 static size_t judged(size_t i, size_t n) {
     const uint32_t *token = slots + WIDTH * i;
@@ -66,15 +78,15 @@ static size_t judged(size_t i, size_t n) {
     } else if (LOVEMUDARN_KIND_OF(code) == LOVEMUDARN_KIND_LITERAL && len > 1) {
         uint32_t literal = LOVEMUDARN_LITERAL_OF(code);
         bool whole = LOVEMUDARN_LITERAL_DETAIL_OF(code) != 0; /* closed, and of a raw string: with a count of hashes */
-        uint8_t second = text[start + 1];
+        uint8_t second = replaced[start + 1];
         uint32_t bytes = second < 0xE0 ? 2 : second < 0xF0 ? 3 : 4; /* of the character, if it is past ASCII */
         if (literal == LOVEMUDARN_LITERAL_CHAR && !(whole && suffix_start == 2 + bytes) && second >= 0x80 &&
-            !lovemudarn_is_ident(text + start + 1, bytes, starts, has.starts, continues, has.continues).beside)
+            !lovemudarn_is_ident(replaced + start + 1, bytes, starts, has.starts, continues, has.continues).beside)
             at = start + 1;
         else if (literal == LOVEMUDARN_LITERAL_RAW_STR && !whole && second == '#' && len > 2)
             at = start + 2;
     }
-    return at < n && text[at] >= 0x80 ? at : n;
+    return at < n && replaced[at] >= 0x80 ? at : n;
 }
 
 /* The first place where lists that hold more may matter, or n. WITHOUT LISTS TWO RULES THAT DIFFER MAY HAVE ONE KEY: the lifetime in f!('é "' // limit 5"); is none
@@ -100,18 +112,24 @@ int main(int argc, char **argv) {
     if (a.number != LOVEMUDARN_DONE)
         return explain(a);
     memset(text, ' ', a.beside); /* 0 where there is none */
-    struct lovemudarn_answer tokens = lovemudarn_tokens(text, n, LISTS, false, slots, WIDTH * MOST);
+    /* what could hide in the key is looked for in the text that it is of */
+    size_t m = replace(n);
+    struct lovemudarn_answer tokens = lovemudarn_tokens(replaced, m, LISTS, false, slots, WIDTH * MOST);
     if (tokens.number != LOVEMUDARN_DONE)
         return explain(tokens);
-    size_t at = needs_lists(tokens.beside, n);
-    if (at < n) {
-        fprintf(stderr, "not keyed: at byte %zu stands a character past ASCII that only lists can judge, and these do not; lend %s lists\n", at,
-                argc > 1 ? "newer" : "Unicode's");
+    size_t at = needs_lists(tokens.beside, m);
+    if (at < m) {
+        fprintf(stderr, "not keyed: at byte %zu (each CR LF counted as one) stands a character past ASCII that only lists can judge, and these do not; lend %s lists\n",
+                at, argc > 1 ? "newer" : "Unicode's");
         return 1;
     }
+    /* the key call is lent the text as it is: it replaces CR LF itself, and refuses CR CR LF */
     a = lovemudarn_key(text, n, LISTS, key, MOST);
     if (a.number != LOVEMUDARN_DONE)
         return explain(a);
+    tokens = lovemudarn_tokens(text, n, LISTS, false, slots, WIDTH * MOST);
+    if (tokens.number != LOVEMUDARN_DONE)
+        return explain(tokens);
     printf("key, %zu bytes:\n", a.beside);
     fwrite(key, 1, a.beside, stdout);
     printf("\ntokens, %zu: code, suffix start, length, start, line (counted from 0)\n", tokens.beside);

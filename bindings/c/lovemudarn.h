@@ -11,6 +11,9 @@
  * LINES. The line of a token is the number of bytes 0A (LF) before its start, so that the first line is line 0. Nothing else ends a line: a CR alone does not,
  * nor does U+2028. A token that goes on over LFs is in the line in which it starts.
  *
+ * LINE ENDS. THE KEY IS OF THE REPLACED TEXT: from the left, each CR LF (0D 0A) becomes LF, each byte used once. A CR alone stays. So a text and the same text
+ * with CR LF line ends have one key, and no key has a CR LF. The calls on tokens, shebangs and strings read the text as it was lent, CR and all.
+ *
  * LISTS. `starts`, `continues` and `emoji` are the code points from 0x80 on that start an identifier, go on in one, and are emoji: a low and a high code
  * point in turn, both included. Rules: at most LOVEMUDARN_MAX_PAIRS pairs; an even count of numbers; low <= high <= 0x10FFFF; low >= 0x80; each low above
  * the high before it; no pair covers a surrogate, U+0085, U+200E, U+200F, U+2028 or U+2029. AN EMPTY LIST (count 0) is a good list: then no character from
@@ -21,9 +24,9 @@
  * in the middle of one.
  *
  * ANSWERS. Every answer begins with three numbers: `number` is 0 (done) or the number of the refusal, `beside` and `second` are the numbers beside it.
- * A number that is not named below is 0. The refusals are checked in this order: 1, 9, 3, 2, 4, 8, 6, 5, 7, and the first that holds is given; a call checks
- * what it uses and nothing else. A REFUSAL WRITES NOTHING: a run or buffer that was lent keeps every element. After success the elements past the answer
- * keep their values.
+ * A number that is not named below is 0. The refusals are checked in this order: 1, 9, 3, 2, 4, 8, 10, 6, 5, 7, and the first that holds is given; a call
+ * checks what it uses and nothing else. A REFUSAL WRITES NOTHING: a run or buffer that was lent keeps every element. After success the elements past the
+ * answer keep their values.
  */
 #ifndef LOVEMUDARN_H
 #define LOVEMUDARN_H
@@ -46,12 +49,15 @@ extern "C" {
 #define LOVEMUDARN_BAD_POSITION 4u /* the position is past the end of the text or inside a character; beside: the position */
 #define LOVEMUDARN_FEW_SLOTS 5u    /* the run has fewer slots than the text has tokens; beside: the tokens, each of which needs
                                       LOVEMUDARN_NUMBERS_OF_A_TOKEN numbers */
-#define LOVEMUDARN_BROKEN_TOKEN 6u /* the text has a broken token, and so no key: a literal that does not end or has no hash count, or a block comment
-                                      that does not end; beside: the start of the first */
+#define LOVEMUDARN_BROKEN_TOKEN 6u /* the replaced text (LINE ENDS) has a broken token, and so no key: a literal that does not end or has no hash count, or a
+                                      block comment that does not end; beside: the start of the first, in the replaced text: every CR LF before it is one
+                                      byte there */
 #define LOVEMUDARN_SHORT_BUFFER 7u /* the buffer is shorter than the key, or than the file of lists; beside: the bytes of the key or the file. Where lists are
                                       read: a run is shorter than its list; beside: the first such list; second: its numbers */
 #define LOVEMUDARN_BAD_PREFIX 8u   /* the raw check's prefix is not 1 with r, or 2 with br or cr; beside: 0 */
 #define LOVEMUDARN_BAD_LINE 9u     /* a line of the file of lists is bad; beside: the number of the first, from 0 */
+#define LOVEMUDARN_DOUBLE_RETURN 10u /* the text has CR CR LF (0D 0D 0A) somewhere, and so no key: it would leave a CR LF in the key, which a second keying would
+                                        change. Beside: the start of the first, in the text as it was lent; of CR CR CR LF it is that of the second CR */
 
 /* The cause beside LOVEMUDARN_NOT_UTF8. The bytes of the sequence are judged from the left: the first that is wrong decides, or the end of the text where it
  * comes before that. */
@@ -258,7 +264,8 @@ struct lovemudarn_run_answer lovemudarn_tokens_from(const uint8_t *text, size_t 
                                                     const uint32_t *continues, size_t continues_len, const uint32_t *emoji, size_t emoji_len, size_t at,
                                                     bool on, uint32_t *slots, size_t slots_len);
 
-/* The key of a text: 1, 3, 2, 6, 7, or 0 with the bytes of the key beside it. The key is at most as long as the text. */
+/* The key of a text: 1, 3, 2, 10, 6, 7, or 0 with the bytes of the key beside it. It is the key of the replaced text (LINE ENDS), and at most as long as that;
+ * 6 has a place in the replaced text beside it, 2 and 10 one in the text as it was lent. A key that is keyed again comes out as it is. */
 struct lovemudarn_answer lovemudarn_key(const uint8_t *text, size_t text_len, const uint32_t *starts, size_t starts_len, const uint32_t *continues,
                                         size_t continues_len, const uint32_t *emoji, size_t emoji_len, uint8_t *out, size_t out_len);
 

@@ -493,7 +493,7 @@ static void test_lines(void) {
     given("65536 lines: the end", lovemudarn_token(long_text, 2 * lines, NO_LISTS, 2 * lines, false), LOVEMUDARN_KIND_EOF, 0, 0, 131072, 65536, false);
 }
 
-static uint8_t out[32];
+static uint8_t out[32], long_key[65536];
 
 static void fill_out(void) {
     for (size_t i = 0; i < 32; i += 1) out[i] = 0xA5;
@@ -532,6 +532,147 @@ static void test_key(void) {
     fill_out();
     answer("a bad list", lovemudarn_key(TEXT("x \"a\377"), LIST(half), NONE, NONE, out, 32), LOVEMUDARN_BAD_LIST, LOVEMUDARN_LIST_STARTS, 1);
     key_holds("a bad list", "", 0);
+}
+
+/* Document 02, W3: the key is of the replaced text, in which each CR LF is LF. A text with CR LF line ends, its twin without them, and their key, which is keyed again. */
+static const struct {
+    const char *name;
+    const uint8_t *text;
+    size_t len;
+    const uint8_t *twin;
+    size_t twin_len;
+    const uint8_t *key;
+    size_t key_len;
+} twins[] = {
+    {"one line end", TEXT("\r\n"), TEXT("\n"), TEXT("\n")},
+    {"two line ends", TEXT("\r\n\r\n"), TEXT("\n\n"), TEXT("\n")},
+    {"between tokens", TEXT("a;\r\nb;\r\n"), TEXT("a;\nb;\n"), TEXT("a;\nb;\n")},
+    {"plain comments", TEXT("a // b\r\n/* c\r\n */\r\nd"), TEXT("a // b\n/* c\n */\nd"), TEXT("a\nd")},
+    {"a line comment for documents", TEXT("/// a\r\nb"), TEXT("/// a\nb"), TEXT("/// a\nb")},
+    {"a block comment for documents", TEXT("/** a\r\n * b\r\n */c"), TEXT("/** a\n * b\n */c"), TEXT("/** a\n * b\n */c")},
+    {"a string", TEXT("\"a\r\nb\""), TEXT("\"a\nb\""), TEXT("\"a\nb\"")},
+    {"a string with a line end of each kind", TEXT("\"a\r\nb\nc\""), TEXT("\"a\nb\nc\""), TEXT("\"a\nb\nc\"")},
+    {"a string that goes on in the next line", TEXT("\"a\\\r\n  b\""), TEXT("\"a\\\n  b\""), TEXT("\"a\\\n  b\"")},
+    {"a raw string", TEXT("r#\"a\r\n\"\r\n\"#"), TEXT("r#\"a\n\"\n\"#"), TEXT("r#\"a\n\"\n\"#")},
+    {"other strings", TEXT("b\"\r\n\";c\"\r\n\";br\"\r\n\""), TEXT("b\"\n\";c\"\n\";br\"\n\""), TEXT("b\"\n\";c\"\n\";br\"\n\"")},
+    {"a character", TEXT("'\r\n'"), TEXT("'\n'"), TEXT("'\n'")},
+    {"a character after another", TEXT("'+\r\n'"), TEXT("'+\n'"), TEXT("'+\n'")},
+    {"a character after a backslash", TEXT("'\\\r\nx'"), TEXT("'\\\nx'"), TEXT("'\\\nx'")},
+    {"a byte after a backslash", TEXT("b'\\\r\nx' y"), TEXT("b'\\\nx' y"), TEXT("b'\\\nx'\ny")},
+    {"CR after CR LF", TEXT("\"\r\n\r\""), TEXT("\"\n\r\""), TEXT("\"\n\r\"")},
+    {"LF before CR LF", TEXT("\"\n\r\n\""), TEXT("\"\n\n\""), TEXT("\"\n\n\"")},
+    {"letters past ASCII", TEXT("\303\251\r\n\"\303\251\r\n\""), TEXT("\303\251\n\"\303\251\n\""), TEXT("\303\251\n\"\303\251\n\"")},
+    /* a CR alone stays: in a token it is one of its bytes, and between tokens whitespace */
+    {"CR between tokens", TEXT("a\rb\r"), TEXT("a b "), TEXT("a\nb\n")},
+    {"CR CR", TEXT("a\r\rb\r\r"), TEXT("a  b  "), TEXT("a\nb\n")},
+    {"LF CR", TEXT("a\n\rb"), TEXT("a\n b"), TEXT("a\nb")},
+    {"CR in a string", TEXT("\"a\rb\""), TEXT("\"a\rb\""), TEXT("\"a\rb\"")},
+    {"CR CR in a string", TEXT("\"\r\r\""), TEXT("\"\r\r\""), TEXT("\"\r\r\"")},
+    {"CR in a comment for documents", TEXT("/// a\rb\r\nc"), TEXT("/// a\rb\nc"), TEXT("/// a\rb\nc")},
+};
+
+static void one_key(const char *what, const uint8_t *text, size_t len, const uint8_t *key, size_t key_len) {
+    fill_out();
+    answer(what, lovemudarn_key(text, len, LIST(letters), LIST(letters), LIST(faces), out, 32), LOVEMUDARN_DONE, key_len, 0);
+    key_holds(what, (const char *)key, key_len);
+}
+
+static void test_line_ends(void) {
+    same("double return", "its number", LOVEMUDARN_DOUBLE_RETURN, 10);
+    for (size_t i = 0; i < sizeof twins / sizeof twins[0]; i += 1) {
+        of = twins[i].name;
+        one_key(": its key", twins[i].text, twins[i].len, twins[i].key, twins[i].key_len);
+        one_key(": its twin's key", twins[i].twin, twins[i].twin_len, twins[i].key, twins[i].key_len);
+        one_key(": its key's key", twins[i].key, twins[i].key_len, twins[i].key, twins[i].key_len);
+    }
+    of = "";
+
+    /* CR CR LF is refused: the place is one in the text as it was lent, and nothing is written */
+    NO_KEY("\r\r\n", 32, LOVEMUDARN_DOUBLE_RETURN, 0, 0);
+    NO_KEY("a\r\r\nb", 32, LOVEMUDARN_DOUBLE_RETURN, 1, 0);
+    NO_KEY("a \r\r\n", 32, LOVEMUDARN_DOUBLE_RETURN, 2, 0);
+    NO_KEY("\r\r\r\n", 32, LOVEMUDARN_DOUBLE_RETURN, 1, 0);
+    NO_KEY("a\r\r\r\r\nb", 32, LOVEMUDARN_DOUBLE_RETURN, 3, 0);
+    NO_KEY("\n\r\r\n", 32, LOVEMUDARN_DOUBLE_RETURN, 1, 0);
+    NO_KEY("\r\n\r\r\n", 32, LOVEMUDARN_DOUBLE_RETURN, 2, 0);
+    NO_KEY("a\r\n\r\n\r\r\n", 32, LOVEMUDARN_DOUBLE_RETURN, 5, 0);
+    NO_KEY("a\r\r\nb\r\r\n", 32, LOVEMUDARN_DOUBLE_RETURN, 1, 0);
+    NO_KEY("\r\ra\r\r\n", 32, LOVEMUDARN_DOUBLE_RETURN, 3, 0);
+    NO_KEY("\303\251\360\237\230\200\r\r\n", 32, LOVEMUDARN_DOUBLE_RETURN, 6, 0);
+    NO_KEY("\"a\r\r\nb\"", 32, LOVEMUDARN_DOUBLE_RETURN, 2, 0);
+    NO_KEY("// a\r\r\nb", 32, LOVEMUDARN_DOUBLE_RETURN, 4, 0);
+    NO_KEY("/// a\r\r\nb", 32, LOVEMUDARN_DOUBLE_RETURN, 5, 0);
+    NO_KEY("/*\r\r\n*/", 32, LOVEMUDARN_DOUBLE_RETURN, 2, 0);
+    NO_KEY("'\\\r\r\nx'", 32, LOVEMUDARN_DOUBLE_RETURN, 2, 0);
+
+    /* 3 and 2 before it, 6 and 7 after it */
+    fill_out();
+    answer("3 before 10", lovemudarn_key(TEXT("a\r\r\nb"), LIST(half), NONE, NONE, out, 32), LOVEMUDARN_BAD_LIST, LOVEMUDARN_LIST_STARTS, 1);
+    key_holds("3 before 10", "", 0);
+    NO_KEY("\r\r\n\377", 32, LOVEMUDARN_NOT_UTF8, 3, LOVEMUDARN_CAUSE_START);
+    NO_KEY("a\r\r\n\r\n\342\202", 32, LOVEMUDARN_NOT_UTF8, 6, LOVEMUDARN_CAUSE_CUT);
+    NO_KEY("\303\r\r\n", 32, LOVEMUDARN_NOT_UTF8, 0, LOVEMUDARN_CAUSE_FOLLOW);
+    NO_KEY("\"\r\r\n", 32, LOVEMUDARN_DOUBLE_RETURN, 1, 0);
+    NO_KEY("'/ /*\r\r\n", 32, LOVEMUDARN_DOUBLE_RETURN, 5, 0);
+    NO_KEY("a\r\r\nb", 0, LOVEMUDARN_DOUBLE_RETURN, 1, 0);
+    NO_KEY("a\r\r\n\"b", 0, LOVEMUDARN_DOUBLE_RETURN, 1, 0);
+
+    /* 6 has a place in the replaced text, and its tokens count */
+    NO_KEY("a\r\nb\r\n\"c", 32, LOVEMUDARN_BROKEN_TOKEN, 4, 0);
+    NO_KEY("\r\n\r\n/*\r\n", 32, LOVEMUDARN_BROKEN_TOKEN, 2, 0);
+    NO_KEY("\"\r\n\" \"", 32, LOVEMUDARN_BROKEN_TOKEN, 4, 0);
+    NO_KEY("a\r\"", 32, LOVEMUDARN_BROKEN_TOKEN, 2, 0);
+    NO_KEY("\r\n'\\\r\nx", 32, LOVEMUDARN_BROKEN_TOKEN, 1, 0);
+    NO_KEY("'\\\r\nx' \"", 32, LOVEMUDARN_BROKEN_TOKEN, 6, 0); /* as it was lent, the first one starts at 0 */
+    NO_KEY("\303\251\r\nr#\r\n", 0, LOVEMUDARN_BROKEN_TOKEN, 3, 0);
+
+    /* 7 has the bytes of the replaced text's key */
+    NO_KEY("\"a\r\nb\"", 4, LOVEMUDARN_SHORT_BUFFER, 5, 0);
+    NO_KEY("a\r\n\r\nb\r\n", 0, LOVEMUDARN_SHORT_BUFFER, 4, 0);
+    fill_out();
+    answer("just room for a string with CR LF", lovemudarn_key(TEXT("\"a\r\nb\""), NO_LISTS, out, 5), LOVEMUDARN_DONE, 5, 0);
+    key_holds("just room for a string with CR LF", "\"a\nb\"", 5);
+
+    /* a long text, and CR CR LF at its end */
+    const size_t lines = 20000;
+    for (size_t i = 0; i < lines; i += 1) {
+        long_text[3 * i] = ';';
+        long_text[3 * i + 1] = '\r';
+        long_text[3 * i + 2] = '\n';
+    }
+    answer("20000 lines: no room", lovemudarn_key(long_text, 3 * lines, NO_LISTS, long_key, 2 * lines - 1), LOVEMUDARN_SHORT_BUFFER, 2 * lines, 0);
+    answer("20000 lines", lovemudarn_key(long_text, 3 * lines, NO_LISTS, long_key, sizeof long_key), LOVEMUDARN_DONE, 2 * lines, 0);
+    size_t other = 0;
+    for (size_t i = 0; i < sizeof long_key; i += 1) other += long_key[i] != (i >= 2 * lines ? 0 : i % 2 == 0 ? ';' : '\n');
+    same("20000 lines", "bytes that are others", other, 0);
+    long_text[3 * lines] = '"';
+    answer("20000 lines and a string", lovemudarn_key(long_text, 3 * lines + 1, NO_LISTS, long_key, sizeof long_key), LOVEMUDARN_BROKEN_TOKEN, 2 * lines, 0);
+    long_text[3 * lines - 3] = '\r';
+    answer("CR CR LF at the end", lovemudarn_key(long_text, 3 * lines, NO_LISTS, long_key, sizeof long_key), LOVEMUDARN_DOUBLE_RETURN, 3 * lines - 3, 0);
+
+    /* the other calls read the text as it was lent, and know nothing of 10 */
+    static const uint32_t broken[20] = {
+        LITERAL(LOVEMUDARN_LITERAL_CHAR, 0), 3, 3, 0, 0, WHITE, 0, 1, 3, 0, LOVEMUDARN_KIND_UNKNOWN_PREFIX, 0, 1, 4, 1,
+        LITERAL(LOVEMUDARN_LITERAL_CHAR, 0), 1, 1, 5, 1,
+    };
+    fill_run();
+    answer("tokens: CR LF after a backslash", lovemudarn_tokens(TEXT("'\\\r\nx'"), NO_LISTS, false, run, 60), LOVEMUDARN_DONE, 4, 0);
+    holds("tokens: CR LF after a backslash", broken, 20);
+    given("CR LF after a backslash", lovemudarn_token(TEXT("'\\\r\nx'"), NO_LISTS, 0, false), LITERAL(LOVEMUDARN_LITERAL_CHAR, 0), 3, 3, 0, 0, false);
+    given("LF after a backslash", lovemudarn_token(TEXT("'\\\nx'"), NO_LISTS, 0, false), LITERAL(LOVEMUDARN_LITERAL_CHAR, 1), 5, 5, 0, 0, false);
+    given("CR LF in a string", lovemudarn_token(TEXT("\"a\r\nb\""), NO_LISTS, 0, false), LITERAL(LOVEMUDARN_LITERAL_STR, 1), 6, 6, 0, 0, false);
+    given("CR LF after a comment", lovemudarn_token(TEXT("/// a\r\nb"), NO_LISTS, 0, false), LOVEMUDARN_KIND_LINE_COMMENT + 64 * LOVEMUDARN_DOC_OUTER, 0, 6, 0, 0,
+          false);
+    static const uint32_t returned[15] = {NAME, 0, 1, 0, 0, WHITE, 0, 3, 1, 0, NAME, 0, 1, 4, 1};
+    fill_run();
+    answer("tokens: CR CR LF", lovemudarn_tokens(TEXT("a\r\r\nb"), NO_LISTS, false, run, 60), LOVEMUDARN_DONE, 3, 0);
+    holds("tokens: CR CR LF", returned, 15);
+    fill_run();
+    RAN("from: CR CR LF", lovemudarn_tokens_from(TEXT("a\r\r\nb"), NO_LISTS, 1, false, run, 60), 2, 5, false);
+    holds("from: CR CR LF", returned + 5, 10);
+    given("CR CR LF", lovemudarn_token(TEXT("a\r\r\nb"), NO_LISTS, 1, false), WHITE, 0, 3, 1, 0, false);
+    answer("check: CR CR LF", lovemudarn_check(TEXT("a\r\r\nb"), NO_LISTS), LOVEMUDARN_DONE, 0, 0);
+    answer("shebang before CR CR LF", lovemudarn_strip_shebang(TEXT("#!a\r\r\nb")), LOVEMUDARN_DONE, 4, 0);
 }
 
 static void test_is_ident(void) {
@@ -1112,6 +1253,7 @@ int main(void) {
     test_tokens_from();
     test_lines();
     test_key();
+    test_line_ends();
     test_is_ident();
     test_strip_shebang();
     test_validate_raw_str();

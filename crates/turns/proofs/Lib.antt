@@ -1,0 +1,4 @@
+pub mod Ways
+pub mod Arms
+pub mod Whole
+pub mod Steps

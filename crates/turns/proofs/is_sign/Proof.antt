@@ -1,0 +1,13 @@
+use borrow.Author.Needs.{needs}
+use borrow.Author.Tests.{lt-ltb, le-ltb, le-leb, lt-leb, eq-eqb, ne-eqb}
+use Rattle.turns.proofs.is_sign.Statement.{statement}
+use Rattle.turns.proofs.is_sign.Tie as tie
+
+returns : tie.Need-returns
+returns c = search (needs, lt-ltb, le-ltb, le-leb, lt-leb, eq-eqb, ne-eqb)
+
+returns-2 : tie.Need-returns-2
+returns-2 c = search (needs, lt-ltb, le-ltb, le-leb, lt-leb, eq-eqb, ne-eqb)
+
+pub is-sign-spec : {M : Type 1} → statement M
+is-sign-spec = tie.close (tie.spec returns returns-2)
