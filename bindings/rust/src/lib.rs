@@ -23,6 +23,9 @@
 //! key. With lists that are older than rustc's the same may happen to names newer than they are: ask
 //! [`needs_newer_lists`].
 //!
+//! **Line ends do not change a key**: it is of the text in which each CR LF is LF, as rustc reads it ([`key`]).
+//! The calls on tokens read a text as it is lent.
+//!
 //! No call panics, whatever the text, the lists and the numbers are: what has no answer is refused by
 //! a [`Refusal`]. Texts are bytes (`&str`, `&[u8]`, ..), and a text that is not UTF-8 is refused.
 
@@ -31,6 +34,7 @@
 
 mod cursor;
 mod kinds;
+mod line_ends;
 mod lists;
 mod raw;
 mod refusal;
@@ -39,6 +43,7 @@ pub use cursor::{Cursor, Tokens};
 pub use kinds::{
     Base, DocStyle, FrontmatterAllowed, GuardedStr, LiteralKind, RawStrError, Token, TokenKind,
 };
+pub use line_ends::lent_place;
 pub use lists::{Held, Lists, LoadedLists, MAX_PAIRS, Version, needs_lists, needs_newer_lists};
 pub use refusal::{Cause, ListName, Refusal};
 
@@ -197,12 +202,27 @@ pub fn advance_token(
 /// The key of a text: its tokens byte for byte, but for whitespace and comments that document
 /// nothing; each longest run of these becomes one newline. Frontmatter is off.
 ///
-/// Two texts have the same key exactly if their other tokens are the same, in the same order and
-/// separated at the same places: the tokens that these lists give. **With [`Lists::EMPTY`] they may be
+/// The key is of the replaced text: from the left, each CR LF becomes LF, as it does for rustc. A CR alone
+/// stays. So a text and the same text with CR LF line ends have one key, and no key has a CR LF. A key
+/// that is keyed again comes out as it is.
+///
+/// ```
+/// use lovemudarn::{Lists, Refusal, key};
+///
+/// let lists = &Lists::EMPTY;
+/// assert_eq!(key("/// a\r\nx = \"\r\n\";\r\n", lists)?, b"/// a\nx\n=\n\"\n\";\n");
+/// assert_eq!(key("/// a\nx = \"\n\";\n", lists)?, b"/// a\nx\n=\n\"\n\";\n");
+/// assert_eq!(key("a;\r\r\nb;", lists), Err(Refusal::DoubleReturn { at: 2 }));
+/// # Ok::<(), Refusal>(())
+/// ```
+///
+/// Two texts have the same key exactly if the other tokens of their replaced texts are the same, in the
+/// same order and separated at the same places: the tokens that these lists give. **With [`Lists::EMPTY`] they may be
 /// others than rustc's, and a change may be missed: key a text so only where [`needs_lists`] finds no place
 /// in it.** Keys of lists that hold different code points are not comparable.
 ///
-/// Refused are 1, 3, 2, and 6 where a literal or a block comment is broken.
+/// Refused are 1, 3, 2, then 10 where CR CR LF stands in the text, and 6 where a literal or a block comment
+/// of the replaced text is broken.
 pub fn key(text: impl AsRef<[u8]>, lists: &Lists) -> Result<Vec<u8>, Refusal> {
     let text = text.as_ref();
     // A key is never longer than its text.
@@ -214,7 +234,7 @@ pub fn key(text: impl AsRef<[u8]>, lists: &Lists) -> Result<Vec<u8>, Refusal> {
 
 /// Writes the [`key`] of a text into a buffer and gives its bytes. Bytes past it keep their values.
 ///
-/// Refused are 1, 3, 2, 6, and 7 with the bytes of the key; then nothing is written.
+/// Refused are 1, 3, 2, 10, 6, and 7 with the bytes of the key; then nothing is written.
 pub fn key_into(text: impl AsRef<[u8]>, lists: &Lists, out: &mut [u8]) -> Result<usize, Refusal> {
     let text = text.as_ref();
     // SAFETY: slices borrowed for the call, `out` uniquely; see the head of this file.

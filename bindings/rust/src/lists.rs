@@ -2,9 +2,10 @@
 
 use std::fmt;
 
+use crate::line_ends::replaced;
 use crate::{
-    FrontmatterAllowed, LiteralKind, Refusal, Token, TokenKind, Tokens, done, is_ident, raw,
-    tokenize,
+    FrontmatterAllowed, LiteralKind, Refusal, Token, TokenKind, Tokens, done, is_ident, lent_place,
+    raw, tokenize,
 };
 
 /// The most pairs that a list may have.
@@ -252,6 +253,10 @@ pub fn needs_lists(text: impl AsRef<[u8]>) -> Result<Option<usize>, Refusal> {
 /// is valid with these lists has no such place, but for what rustc takes away first: a byte order mark,
 /// a shebang, frontmatter.
 ///
+/// Two texts are looked at: the one that is lent, whose tokens the calls give, and the replaced one, in which
+/// each CR LF is LF, of which the key is. A character in single quotes may end in the one and not in the other
+/// (`\` before CR LF), and then all that follows parts otherwise. The place is one in the text that is lent.
+///
 /// Refused are 1, 3 and 2.
 //
 // Why these places are all: a list is asked about characters past ASCII alone. Where the lexer looks
@@ -261,7 +266,13 @@ pub fn needs_lists(text: impl AsRef<[u8]>) -> Result<Option<usize>, Refusal> {
 // list may hold. A list is not asked about the character after a single quote where a quote follows it.
 pub fn needs_newer_lists(text: impl AsRef<[u8]>, lists: &Lists) -> Result<Option<usize>, Refusal> {
     let text = text.as_ref();
-    first_asked(text, lists, tokenize(text, FrontmatterAllowed::No, lists)?)
+    let of_tokens = first_asked(text, lists, tokenize(text, FrontmatterAllowed::No, lists)?)?;
+    let Some(replaced) = replaced(text) else {
+        return Ok(of_tokens);
+    };
+    let tokens = tokenize(&replaced, FrontmatterAllowed::No, lists)?;
+    let of_key = first_asked(&replaced, lists, tokens)?.map(|at| lent_place(text, at));
+    Ok(of_tokens.into_iter().chain(of_key).min())
 }
 
 fn first_asked(text: &[u8], lists: &Lists, mut tokens: Tokens) -> Result<Option<usize>, Refusal> {

@@ -111,9 +111,11 @@ pub enum Refusal {
         /// The tokens of the text.
         needed: usize,
     },
-    /// 6: the text has no key, for a token is broken.
+    /// 6: the text has no key, for a token of the replaced text is broken: of the text in which each
+    /// CR LF is LF (see [`key`](crate::key)).
     Broken {
-        /// Where the first broken token starts.
+        /// Where the first broken token starts, in the replaced text. [`lent_place`](crate::lent_place)
+        /// gives the same place in the text that was lent.
         at: usize,
     },
     /// 7: the buffer has fewer bytes than the key, or than the file of lists.
@@ -134,6 +136,12 @@ pub enum Refusal {
     Line {
         /// The number of the first that is, counted from 0.
         line: usize,
+    },
+    /// 10: the text has no key, for CR CR LF stands in it. It would leave a CR LF in the key, which a
+    /// second keying would change.
+    DoubleReturn {
+        /// Where the first one starts, in the text that was lent. Of CR CR CR LF it is the second CR.
+        at: usize,
     },
     /// The archive gave an answer that this crate does not know: the two are of different
     /// versions.
@@ -160,16 +168,20 @@ impl Refusal {
             Refusal::Room { .. } | Refusal::ListRoom { .. } => 7,
             Refusal::Prefix => 8,
             Refusal::Line { .. } => 9,
+            Refusal::DoubleReturn { .. } => 10,
             Refusal::Unknown { number, .. } => number,
         }
     }
 
-    /// The place in the text, in bytes from its beginning, where the refusal names one (2, 4, 6).
+    /// The place in the text, in bytes from its beginning, where the refusal names one (2, 4, 6, 10). That
+    /// of 6 is one in the replaced text, in which each CR LF is one byte:
+    /// [`lent_place`](crate::lent_place) gives the same place in the text that was lent.
     pub fn place(self) -> Option<usize> {
         match self {
-            Refusal::NotUtf8 { at, .. } | Refusal::Position { at } | Refusal::Broken { at } => {
-                Some(at)
-            }
+            Refusal::NotUtf8 { at, .. }
+            | Refusal::Position { at }
+            | Refusal::Broken { at }
+            | Refusal::DoubleReturn { at } => Some(at),
             _ => None,
         }
     }
@@ -211,6 +223,7 @@ impl Refusal {
             7 => Refusal::Room { needed: beside },
             8 => Refusal::Prefix,
             9 => Refusal::Line { line: beside },
+            10 => Refusal::DoubleReturn { at: beside },
             _ => unknown,
         }
     }
@@ -259,8 +272,9 @@ impl fmt::Display for Refusal {
             }
             Refusal::Broken { at } => write!(
                 f,
-                "the text has no key: the comment or literal that begins at byte {at} (counted from 0) \
-                 is not closed, or is a raw string that begins wrong or has more than 255 hashes"
+                "the text has no key: the comment or literal that begins at byte {at} (counted from 0, \
+                 each CR LF as one byte) is not closed, or is a raw string that begins wrong or has more \
+                 than 255 hashes"
             ),
             Refusal::Room { needed } => {
                 write!(f, "the buffer is too short: {needed} bytes are needed")
@@ -275,6 +289,11 @@ impl fmt::Display for Refusal {
                 f,
                 "line {line} (counted from 0) of the file of lists is out of form or out of order, or is \
                  cut off; make the file anew from the Unicode files"
+            ),
+            Refusal::DoubleReturn { at } => write!(
+                f,
+                "the text has no key: at byte {at} (counted from 0) stands CR CR LF; write this line end as \
+                 LF or CR LF"
             ),
             Refusal::Unknown { number: _, beside, second } => write!(
                 f,
@@ -293,7 +312,7 @@ mod tests {
 
     #[test]
     fn numbers_go_both_ways() {
-        for number in 1..=9 {
+        for number in 1..=10 {
             for (beside, second) in [(0, 1), (1, 2), (2, 3)] {
                 for of in [Refusal::of, Refusal::of_reader] {
                     let refusal = of(number, beside, second);
@@ -305,7 +324,7 @@ mod tests {
         for pair in [0, 7, crate::MAX_PAIRS] {
             assert_eq!(Refusal::of(3, 2, pair), Refusal::List { list: ListName::Emoji, pair });
         }
-        for (number, beside) in [(0, 0), (3, 3), (10, 1), (u32::MAX, usize::MAX)] {
+        for (number, beside) in [(0, 0), (3, 3), (11, 1), (u32::MAX, usize::MAX)] {
             for of in [Refusal::of, Refusal::of_reader] {
                 let refusal = of(number, beside, 1);
                 assert!(matches!(refusal, Refusal::Unknown { .. }));
@@ -347,9 +366,9 @@ mod tests {
 
     #[test]
     fn places() {
-        for number in 1..=9 {
+        for number in 1..=10 {
             let refusal = Refusal::of(number, 1, 3);
-            assert_eq!(refusal.place(), [2, 4, 6].contains(&number).then_some(1));
+            assert_eq!(refusal.place(), [2, 4, 6, 10].contains(&number).then_some(1));
             assert_eq!(refusal.needed(), [5, 7].contains(&number).then_some(1));
             assert_eq!(refusal.cause(), (number == 2).then_some(Cause::Follow));
         }
@@ -357,13 +376,18 @@ mod tests {
 
     #[test]
     fn each_says_its_number() {
-        for number in 1..=10 {
+        for number in 1..=11 {
             for of in [Refusal::of, Refusal::of_reader] {
                 let said = of(number, 2, 17).to_string();
                 assert!(said.starts_with(&format!("refusal {number}: ")), "{said}");
             }
         }
-        assert!(Refusal::of(6, 41, 0).to_string().contains("byte 41 "));
+        let said = Refusal::of(6, 41, 0).to_string();
+        assert!(said.contains("byte 41 (counted from 0, each CR LF as one byte)"), "{said}");
+        let said = Refusal::of(10, 41, 0).to_string();
+        assert!(said.contains("at byte 41 (counted from 0) stands CR CR LF; "), "{said}");
+        assert!(said.ends_with("write this line end as LF or CR LF"), "{said}");
+        assert_eq!(Refusal::of(10, 41, 0), Refusal::DoubleReturn { at: 41 });
         assert!(
             Refusal::of(3, 2, 17)
                 .to_string()

@@ -143,8 +143,12 @@ fn their_tokens(text: &str, frontmatter: FrontmatterAllowed) -> Vec<Token> {
         .collect()
 }
 
-/// The key by the scope paper's words, over their tokens.
+/// The key by the scope paper's words, over their tokens of the text in which each CR LF is LF.
 fn their_key(text: &str) -> Result<Vec<u8>, Refusal> {
+    if let Some(at) = text.find("\r\r\n") {
+        return Err(Refusal::DoubleReturn { at });
+    }
+    let text = &text.replace("\r\n", "\n");
     let tokens = their_tokens(text, FrontmatterAllowed::No);
     if let Some(token) = tokens.iter().find(|token| token.kind.is_broken()) {
         return Err(Refusal::Broken { at: token.start });
@@ -182,7 +186,7 @@ impl Chance {
 #[rustfmt::skip]
 const PIECES: &[&str] = &[
     // blanks and comments
-    " ", "\n", "\t", "\r\n", "\r", "\u{85}", "\u{200e}", "\u{2028}", "\u{b}", "//", "///", "//!", "////", "/*",
+    " ", "\n", "\t", "\r\n", "\r", "\r\r\n", "\\\r\n", "\u{85}", "\u{200e}", "\u{2028}", "\u{b}", "//", "///", "//!", "////", "/*",
     "*/", "/**", "/*!", "/***", "/**/", "/", "*", "!", "// a\n", "/// b\n", "/* c */", "/** d */", "/*! e */", "/*/",
     // words
     "a", "r", "b", "c", "k", "br", "cr", "rb", "e", "E", "_", "x", "fn", "é", "日本", "ß", "r#a", "k#fn", "'a", "'r#a",
@@ -284,6 +288,9 @@ struct Count {
     later: usize,
     strings: usize,
     keys: usize,
+    /// Of these, how many are of a text with CR LF.
+    replaced: usize,
+    double_returns: usize,
     broken: usize,
     ill_formed: usize,
     /// Of these, how many of each cause.
@@ -325,12 +332,14 @@ fn compare(text: &str, lists: &Lists, count: &mut Count) {
     match ours {
         Ok(key) => {
             count.keys += 1;
+            count.replaced += usize::from(text.contains("\r\n"));
             assert_eq!(
                 lovemudarn::key(&key, lists).as_ref(),
                 Ok(&key),
                 "the key of a key: {text:?}"
             );
         }
+        Err(Refusal::DoubleReturn { .. }) => count.double_returns += 1,
         Err(_) => count.broken += 1,
     }
     assert_eq!(lovemudarn::strip_shebang(text), Ok(rustc_lexer::strip_shebang(text)), "{text:?}");
@@ -484,18 +493,23 @@ fn the_same_as_rustcs_lexer() {
         }
     }
     println!(
-        "{} texts, {} tokens, {} of them past the first line, {} strings after hashes, {} keys, {} broken, {} ill-formed by cause {:?}: all agree",
+        "{} texts, {} tokens, {} of them past the first line, {} strings after hashes, {} keys, {} of them of texts with CR LF, {} with CR CR LF, {} broken, {} ill-formed by cause {:?}: all agree",
         count.texts,
         count.tokens,
         count.later,
         count.strings,
         count.keys,
+        count.replaced,
+        count.double_returns,
         count.broken,
         count.ill_formed,
         count.causes
     );
     for seen in [count.strings, count.keys, count.broken, count.ill_formed] {
         assert!(seen * 50 > count.texts, "too few to tell");
+    }
+    for seen in [count.replaced, count.double_returns] {
+        assert!(seen * 200 > count.texts, "too few line ends to tell");
     }
     for seen in count.causes {
         assert!(seen * 400 > count.texts, "too few of a cause to tell");
@@ -637,7 +651,7 @@ fn compare_needs(texts: &[String], these: &Owned, newer: &[Owned]) -> Needs {
 /// The characters at which tokens turn, and some that lists are asked about.
 #[rustfmt::skip]
 const TURNS: &[&str] = &[
-    "'", "\"", "#", "r", "k", "b", "a", "1", ".", "e", "/", "*", "\\", "\n", " ", "é", "😀", "\u{85}",
+    "'", "\"", "#", "r", "k", "b", "a", "1", ".", "e", "/", "*", "\\", "\n", "\r\n", " ", "é", "😀", "\u{85}",
 ];
 
 /// Every text of at most so many of them.

@@ -122,6 +122,23 @@ fn a_refusal_is_explained() {
     let (status, out, said) = run("let unit = \"mg;\n");
     assert_eq!((status, out.as_str()), (Some(1), ""));
     assert!(said.starts_with("refusal 6: ") && said.contains("begins at byte 11 "), "{said}");
+    let (status, out, said) = run("let a = 1;\r\r\n");
+    assert_eq!((status, out.as_str()), (Some(1), ""));
+    assert!(said.starts_with("refusal 10: ") && said.contains(" at byte 10 "), "{said}");
+}
+
+/// A text with CR LF line ends has the key of its twin; its tokens are those of the text as it is.
+#[test]
+fn line_ends_change_no_key() {
+    for (text, string) in [("/// a\nb = \"\n\";\n", 3), ("/// a\r\nb = \"\r\n\";\r\n", 4)] {
+        let (status, out, said) = run(text);
+        assert_eq!((status, said.as_str()), (Some(0), ""));
+        let key = "key: /// a\\nb\\n=\\n\\\"\\n\\\";\\n";
+        assert_eq!(out.lines().next(), Some(key));
+        assert!(out.contains(&format!(
+            "terminated: true }}, suffix_start: {string} }}, length {string}, "
+        )));
+    }
 }
 
 #[test]

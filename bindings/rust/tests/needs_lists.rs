@@ -75,6 +75,39 @@ fn why_it_is_asked() {
     assert_eq!(key(nine, &lists).unwrap(), "f!('é\n\"' // limit 9\");".as_bytes());
 }
 
+/// The text as it is lent, and the one in which each CR LF is LF, of which the key is: where `'\` stands before
+/// CR LF, a character ends in the second alone, and what follows parts otherwise.
+#[test]
+fn line_ends() {
+    for (text, place) in [
+        ("a\r\nb \"é\r\n\" // é\r\n", None),
+        ("a\r\n'é\r\n", Some(4)),
+        ("a\r\n\r\né", Some(5)),
+        // As it is lent a character, ' ', ends before the first é.
+        ("'\\\r\nx' 'é' é", Some(8)),
+        ("'\\\nx' 'é' é", Some(11)),
+        // As it is lent é is in a string, "'é ".
+        ("'\\\r\nx'\"'\"'é \"' // limit 5\"", Some(10)),
+        ("'\\\nx'\"'\"'é \"' // limit 5\"", Some(9)),
+        // In the replaced text é is in a string, "'é'".
+        ("'\\\r\nx'\"'é'\"", Some(8)),
+        ("'\\\nx'\"'é'\"", None),
+        // CR CR LF has no key, but it has tokens.
+        ("a\r\r\né", Some(4)),
+    ] {
+        assert_eq!(needs_lists(text), Ok(place), "{text:?}");
+    }
+    // Why both are looked at: one key with empty lists, two with real ones.
+    let texts = [5, 9].map(|limit| format!("'\\\r\nx'\"'\"'é \"' // limit {limit}\""));
+    let lists = Lists { id_start: &[0xE9, 0xE9], id_continue: &[0xE9, 0xE9], emoji: &[] };
+    for (text, limit) in texts.iter().zip([5, 9]) {
+        assert_eq!(key(text, &Lists::EMPTY).unwrap(), "'\\\nx'\"'\"'é \"'\n".as_bytes());
+        let right = format!("'\\\nx'\"'\"'é\n\"' // limit {limit}\"");
+        assert_eq!(key(text, &lists).unwrap(), right.as_bytes());
+        assert_eq!(needs_newer_lists(text, &lists), Ok(None));
+    }
+}
+
 /// With lists: é begins a name, U+0301 goes on in one, U+2764 is emoji, and ß and 日 are in none.
 #[test]
 fn places_with_lists() {

@@ -7,8 +7,8 @@ use common::{UNTOUCHED, by_rust, every_call_refuses};
 use lovemudarn::{
     Cause, Cursor, FrontmatterAllowed::No, ListName, Lists, MAX_PAIRS, NUMBERS_OF_A_TOKEN, Refusal,
     Run, advance_token, check, guarded_double_quoted_string, is_emoji_char, is_id_continue,
-    is_id_start, is_ident, key, key_into, needs_lists, strip_shebang, token_of, tokenize,
-    tokenize_into, tokens_from, validate_raw_str,
+    is_id_start, is_ident, key, key_into, lent_place, needs_lists, strip_shebang, token_of,
+    tokenize, tokenize_into, tokens_from, validate_raw_str,
 };
 
 const NONE: &Lists = &Lists::EMPTY;
@@ -240,6 +240,82 @@ fn broken_tokens_have_no_key() {
         let mut none = [];
         assert_eq!(key_into(text, NONE, &mut none), Err(refusal));
     }
+}
+
+/// Document 02, W3: each place is one in the text that is lent.
+#[test]
+fn double_returns_have_no_key() {
+    for (text, at) in [
+        ("\r\r\n", 0),
+        ("a\r\r\nb", 1),
+        ("\r\r\r\n", 1),
+        ("a\r\r\r\r\n", 3),
+        ("\n\r\r\n", 1),
+        ("\r\n\r\r\n", 2),
+        ("a\r\n\r\n\r\r\n", 5),
+        ("\r\r;\r\r\n", 3),
+        ("é\r\r\n", 2),
+        // The first of two.
+        ("a\r\r\nb\r\r\n", 1),
+        // In tokens, and in what a key drops.
+        ("\"\r\r\n\"", 1),
+        ("// a\r\r\nb", 4),
+        ("/*\r\r\n*/", 2),
+        ("/// \r\r\n", 4),
+        // Before a broken token.
+        ("\"\r\r\n", 1),
+        ("'/ /*\r\r\n", 5),
+    ] {
+        let refusal = Refusal::DoubleReturn { at };
+        assert_eq!((refusal.number(), refusal.place()), (10, Some(at)));
+        assert_eq!(key(text, NONE), Err(refusal), "{text:?}");
+        // Before too little room; and nothing is written.
+        let mut out = *b"0123456789";
+        for room in [0, 10] {
+            assert_eq!(key_into(text, NONE, &mut out[..room]), Err(refusal), "{text:?}");
+        }
+        assert_eq!(&out, b"0123456789");
+        // The other calls know nothing of it.
+        assert_eq!(check(text, NONE), Ok(()));
+        assert_eq!(needs_lists(text), Ok(text.starts_with('é').then_some(0)));
+        assert!(tokenize(text, No, NONE).is_ok() && strip_shebang(text) == Ok(None));
+    }
+    // After lists and bytes.
+    let bad = Lists { emoji: &[1], ..Lists::EMPTY };
+    let refusal = Refusal::List { list: ListName::Emoji, pair: 0 };
+    assert_eq!(key("\r\r\n", &bad), Err(refusal));
+    let refusal = Refusal::NotUtf8 { at: 3, cause: Cause::Start };
+    assert_eq!(key(b"\r\r\n\xff", NONE), Err(refusal));
+    let refusal = Refusal::NotUtf8 { at: 6, cause: Cause::Cut };
+    assert_eq!(key(b"a\r\r\n\r\n\xe2\x82", NONE), Err(refusal));
+}
+
+/// The place of a broken token is one in the replaced text, whose tokens count; and so do the bytes of its key.
+#[test]
+fn places_in_the_replaced_text() {
+    for (text, at, lent) in [
+        ("a\r\nb\r\n\"c", 4, 6),
+        ("\r\n\r\n/*\r\n", 2, 4),
+        ("\"\r\n\" \"", 4, 5),
+        ("a\r\"", 2, 2),
+        ("é\r\nr#\r\n", 3, 4),
+        ("\r\n'\\\r\nx", 1, 2),
+        // In the text that is lent the first broken one starts at 0.
+        ("'\\\r\nx' \"", 6, 7),
+    ] {
+        let refusal = Refusal::Broken { at };
+        assert_eq!(key(text, NONE), Err(refusal), "{text:?}");
+        assert_eq!(key_into(text, NONE, &mut []), Err(refusal), "{text:?}");
+        assert_eq!(lent_place(text, at), lent, "{text:?}");
+    }
+    let mut out = *b"0123456789";
+    for room in 0..5 {
+        let refusal = Refusal::Room { needed: 5 };
+        assert_eq!(key_into("\"a\r\nb\"", NONE, &mut out[..room]), Err(refusal));
+        assert_eq!(&out, b"0123456789");
+    }
+    assert_eq!(key_into("\"a\r\nb\"", NONE, &mut out), Ok(5));
+    assert_eq!(&out, b"\"a\nb\"56789");
 }
 
 #[test]

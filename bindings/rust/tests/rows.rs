@@ -86,6 +86,53 @@ fn what_a_key_keeps_apart() {
     assert_eq!(key("---\nx\n---\n", NONE).unwrap(), b"---\nx\n---\n");
 }
 
+/// Document 02, W3: a text, its twin with CR LF line ends, and their key, which is keyed again.
+#[test]
+fn line_ends_change_no_key() {
+    for (text, right) in [
+        ("", ""),
+        ("\n", "\n"),
+        ("a;\nb; // c\n", "a;\nb;\n"),
+        ("a /* b\n */ c", "a\nc"),
+        ("/// a\nb", "/// a\nb"),
+        ("/** a\n */b", "/** a\n */b"),
+        ("\"a\nb\" c\"\n\"", "\"a\nb\"\nc\"\n\""),
+        ("\"a\\\n  b\"", "\"a\\\n  b\""),
+        ("r#\"\n\"\n\"# br\"\n\"", "r#\"\n\"\n\"#\nbr\"\n\""),
+        ("'\n' '+\n'", "'\n'\n'+\n'"),
+        ("'\\\nx' b'\\\nx'", "'\\\nx'\nb'\\\nx'"),
+        ("é\n'é'\n\"é\n\"", "é\n'é'\n\"é\n\""),
+    ] {
+        let twin = text.replace('\n', "\r\n");
+        for text in [text, &twin, right] {
+            assert_eq!(key(text, NONE).unwrap(), right.as_bytes(), "{text:?}");
+        }
+    }
+    // A CR alone stays: in a token it is one of its bytes, and between tokens it is whitespace.
+    for (text, right) in [
+        ("a\rb\r\rc\r", "a\nb\nc\n"),
+        ("\"a\rb\" \"\r\r\"", "\"a\rb\"\n\"\r\r\""),
+        ("\"\n\r\"", "\"\n\r\""),
+        ("\"\r\n\r\"", "\"\n\r\""),
+        ("/// a\rb\r\nc", "/// a\rb\nc"),
+    ] {
+        assert_eq!(key(text, NONE).unwrap(), right.as_bytes(), "{text:?}");
+        assert_eq!(key(right, NONE).unwrap(), right.as_bytes(), "{right:?}");
+    }
+    // The calls on tokens read the text as it is lent: there CR LF ends this character.
+    let chr = |terminated, len| Token {
+        kind: literal(LiteralKind::Char { terminated }, len),
+        len,
+        start: 0,
+        line: 0,
+    };
+    assert_eq!(first("'\\\r\nx'", No), chr(false, 3));
+    assert_eq!(first("'\\\nx'", No), chr(true, 5));
+    let string = literal(LiteralKind::Str { terminated: true }, 6);
+    assert_eq!(first("\"a\r\nb\"", No), Token { kind: string, len: 6, start: 0, line: 0 });
+    assert_eq!(first("\r\r\n", No).len, 3);
+}
+
 #[test]
 fn raw_checks() {
     let no_end =

@@ -1,1 +1,2 @@
 pub mod LineEnds
+pub mod Found

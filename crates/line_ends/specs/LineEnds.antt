@@ -22,6 +22,10 @@ abbrev pub noCrLf : List ℕ → Bool
 noCrLf [] = true
 noCrLf (c ∷ cs) = and (not (crLf c cs)) (noCrLf cs)
 
--- 10: where the first CR CR LF begins
+-- CR CR LF is at the front
+abbrev pub doubleAt : List ℕ → Bool
+doubleAt s = begins ('carriage-return' ∷ 'carriage-return' ∷ 'newline' ∷ []) s
+
+-- WHERE THE FIRST CR CR LF begins (refusal 10)
 abbrev pub doubleReturn : List ℕ → Place
-doubleReturn s = find (begins ('carriage-return' ∷ 'carriage-return' ∷ 'newline' ∷ [])) s
+doubleReturn s = find doubleAt s

@@ -1,0 +1,115 @@
+-- Where CR CR LF stands, found from the left; and whether LF follows a CR, by the bytes.
+use Prim.Native.Nat.{ℕ, zero, suc, _+_, _-_, _≤_, _<_}
+use mathlib.Core.Path.{_≡_, refl, sym, ap, subst, _∙_}
+use mathlib.Core.List.{List, [], _∷_}
+use mathlib.Core.Bool.{Bool, true, false}
+use lib.ListN.{length, getD, drop, length-drop}
+use lib.Dec.{eqb}
+use lib.Seq.{drop-cons}
+use borrow.Author.Tests.{eq-eqb, ne-eqb}
+use native.Mathlib.Omega.{arith}
+use Rattle.basics.specs.Choice.{pick, and}
+use Rattle.text.specs.declared.Decoded.{Decoded}
+use Rattle.text.specs.declared.Decoded.the-variants.{Char, End, Ill}
+use Rattle.text.specs.declared.Cause.{Cause}
+use Rattle.text.specs.Utf8.{decoded}
+use Rattle.text.specs.Chars.{chars}
+use Rattle.text.proofs.Texts.{stepped}
+use Rattle.eaters.specs.Find.{Place, at, nowhere, further, find}
+use Rattle.line_ends.specs.declared.Found.{Found}
+use Rattle.line_ends.specs.declared.Found.the-variants.{At, Nowhere}
+use Rattle.line_ends.specs.LineEnds.{crLf, doubleAt, doubleReturn}
+use Rattle.line_ends.specs.Found.{foundAt}
+
+-- AFTER A CR: the next character is LF or not
+module _ (s : List ℕ) (next : ℕ) {c : ℕ} where
+  pub lf-char : {r : Decoded} {d w : ℕ} → c ≡ 13 → r ≡ decoded (drop next s) → r ≡ Char d w → eqb d 10 ≡ crLf c (chars (drop next s))
+  lf-char e q z = rw (e, stepped (drop next s) (sym q ∙ z))
+
+  pub lf-end : {r : Decoded} → c ≡ 13 → r ≡ decoded (drop next s) → r ≡ End → false ≡ crLf c (chars (drop next s))
+  lf-end e q z = rw (e, stepped (drop next s) (sym q ∙ z))
+
+  pub lf-ill : {r : Decoded} {k : Cause} → c ≡ 13 → r ≡ decoded (drop next s) → r ≡ Ill k → false ≡ crLf c (chars (drop next s))
+  lf-ill e q z = rw (e, stepped (drop next s) (sym q ∙ z))
+
+  pub lf-none : (c ≡ 13 → ⊥) → false ≡ crLf c (chars (drop next s))
+  lf-none n = rw (ne-eqb c 13 n)
+
+-- CR CR LF AT A PLACE: three bytes of the text
+module _ (s : List ℕ) (i : ℕ) (h : i + 2 < length s) where
+  three-bytes : doubleAt (drop i s) ≡ and (eqb (getD s i 0) 13) (and (eqb (getD s (i + 1) 0) 13) (and (eqb (getD s (i + 2) 0) 10) true))
+  three-bytes =
+      let a : i + 1 ≡ suc i = omega arith in
+      let b : i + 2 ≡ suc (suc i) = omega arith in
+      rw (a, b, drop-cons s i 0 (omega arith), drop-cons s (suc i) 0 (omega arith), drop-cons s (suc (suc i)) 0 (omega arith))
+
+  pub double-all : {a b : ℕ} → a ≡ getD s i 0 → a ≡ 13 → b ≡ getD s (i + 1) 0 → b ≡ 13 → {d : ℕ} → d ≡ getD s (i + 2) 0 → eqb d 10 ≡ doubleAt (drop i s)
+  double-all p q t u v = sym (three-bytes ∙ rw (← p, q, ← t, u, ← v) (and-true _))
+    where
+      and-true : (x : Bool) → and x true ≡ x
+      and-true true = refl
+      and-true false = refl
+
+  pub double-second : {a b : ℕ} → a ≡ getD s i 0 → a ≡ 13 → b ≡ getD s (i + 1) 0 → (b ≡ 13 → ⊥) → false ≡ doubleAt (drop i s)
+  double-second {b = b} p q t u = sym (three-bytes ∙ rw (← p, q, ← t, ne-eqb b 13 u))
+
+  pub double-first : {a : ℕ} → a ≡ getD s i 0 → (a ≡ 13 → ⊥) → false ≡ doubleAt (drop i s)
+  double-first {a} p q = sym (three-bytes ∙ rw (← p, ne-eqb a 13 q))
+
+-- FROM THE LEFT: k places further
+abbrev pub shifted : ℕ → Place → Place
+shifted k (at j) = at (k + j)
+shifted k nowhere = nowhere
+
+shifted-further : (k : ℕ) (q : Place) → shifted k (further q) ≡ shifted (k + 1) q
+shifted-further k (at j) = ap at (omega arith)
+shifted-further k nowhere = refl
+
+-- none of the first i places has one
+abbrev pub NoneBefore : (s : List ℕ) (i : ℕ) → Type 0
+NoneBefore s i = doubleReturn s ≡ shifted i (doubleReturn (drop i s))
+
+pub none-before : (s : List ℕ) → NoneBefore s 0
+none-before s = go (doubleReturn s)
+  where
+    go : (q : Place) → q ≡ shifted 0 q
+    go (at j) = ap at (omega arith)
+    go nowhere = refl
+
+pub double-found : (s : List ℕ) {i : ℕ} {t : Bool} → NoneBefore s i → i + 2 < length s → t ≡ doubleAt (drop i s) → t ≡ true → At i ≡ foundAt (doubleReturn s)
+unfolding find
+double-found s {i} u h p q =
+    let e : doubleReturn (drop i s) ≡ at 0 = rw (drop-cons s i 0 (omega arith)) (ap (λ (b : Bool). pick b (at 0) (further (doubleReturn (drop (suc i) s)))) (rw (drop-cons s i 0 (omega arith)) at (sym p ∙ q))) in
+    let z : i + 0 ≡ i = omega arith in
+    sym (ap foundAt (u ∙ ap (shifted i) e ∙ ap at z))
+
+pub none-here : (s : List ℕ) {i : ℕ} {t : Bool} → NoneBefore s i → i + 2 < length s → t ≡ doubleAt (drop i s) → t ≡ false → NoneBefore s (i + 1)
+unfolding find
+none-here s {i} u h p q =
+    let a : i + 1 ≡ suc i = omega arith in
+    let e : doubleReturn (drop i s) ≡ further (doubleReturn (drop (suc i) s)) = rw (drop-cons s i 0 (omega arith)) (ap (λ (b : Bool). pick b (at 0) (further (doubleReturn (drop (suc i) s)))) (rw (drop-cons s i 0 (omega arith)) at (sym p ∙ q))) in
+    u ∙ ap (shifted i) e ∙ shifted-further i (doubleReturn (drop (suc i) s)) ∙ ap (λ (k : ℕ). shifted (i + 1) (doubleReturn (drop k s))) (sym a)
+
+-- two bytes have none
+few-none : (s : List ℕ) → length s ≤ 2 → doubleReturn s ≡ nowhere
+unfolding find
+few-none [] h = refl
+few-none (a ∷ []) h = go (eqb a 13)
+  where
+    go : (t : Bool) → pick (and t false) (at 0) nowhere ≡ nowhere
+    go true = refl
+    go false = refl
+few-none (a ∷ b ∷ []) h = go (eqb a 13) (eqb b 13)
+  where
+    go : (t u : Bool) → pick (and t (and u false)) (at 0) (further (pick (and u false) (at 0) nowhere)) ≡ nowhere
+    go true true = refl
+    go true false = refl
+    go false true = refl
+    go false false = refl
+few-none (a ∷ b ∷ c ∷ s) h = absurd (omega arith)
+
+pub double-few : (s : List ℕ) → length s < 3 → Nowhere ≡ foundAt (doubleReturn s)
+double-few s h = sym (ap foundAt (few-none s (omega arith)))
+
+pub double-none : (s : List ℕ) {i last : ℕ} → NoneBefore s i → 3 ≤ length s → last ≡ length s - 2 → last ≤ i → Nowhere ≡ foundAt (doubleReturn s)
+double-none s {i} u m e h = sym (ap foundAt (u ∙ ap (shifted i) (few-none (drop i s) (omega (arith, length-drop i s)))))
