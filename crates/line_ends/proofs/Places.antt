@@ -11,7 +11,7 @@ use native.Mathlib.Omega.{arith}
 use Rattle.basics.specs.Choice.{pick, and}
 use Rattle.text.specs.declared.Decoded.{Decoded}
 use Rattle.text.specs.declared.Decoded.the-variants.{Char, End, Ill}
-use Rattle.text.specs.declared.Cause.{Cause}
+use Rattle.refusal.specs.declared.Cause.{Cause}
 use Rattle.text.specs.Utf8.{decoded}
 use Rattle.text.specs.Chars.{chars}
 use Rattle.text.proofs.Texts.{stepped}
@@ -43,18 +43,18 @@ module _ (s : List ℕ) (i : ℕ) (h : i + 2 < length s) where
       let b : i + 2 ≡ suc (suc i) = omega arith in
       rw (a, b, drop-cons s i 0 (omega arith), drop-cons s (suc i) 0 (omega arith), drop-cons s (suc (suc i)) 0 (omega arith))
 
-  pub double-all : {a b : ℕ} → a ≡ getD s i 0 → a ≡ 13 → b ≡ getD s (i + 1) 0 → b ≡ 13 → {d : ℕ} → d ≡ getD s (i + 2) 0 → eqb d 10 ≡ doubleAt (drop i s)
-  double-all p q t u v = sym (three-bytes ∙ rw (← p, q, ← t, u, ← v) (and-true _))
+  pub double-all : getD s i 0 ≡ 13 → getD s (i + 1) 0 ≡ 13 → eqb (getD s (i + 2) 0) 10 ≡ doubleAt (drop i s)
+  double-all p q = sym (three-bytes ∙ rw (p, q) (and-true _))
     where
       and-true : (x : Bool) → and x true ≡ x
       and-true true = refl
       and-true false = refl
 
-  pub double-second : {a b : ℕ} → a ≡ getD s i 0 → a ≡ 13 → b ≡ getD s (i + 1) 0 → (b ≡ 13 → ⊥) → false ≡ doubleAt (drop i s)
-  double-second {b = b} p q t u = sym (three-bytes ∙ rw (← p, q, ← t, ne-eqb b 13 u))
+  pub double-second : getD s i 0 ≡ 13 → (getD s (i + 1) 0 ≡ 13 → ⊥) → false ≡ doubleAt (drop i s)
+  double-second p q = sym (three-bytes ∙ rw (p, ne-eqb (getD s (i + 1) 0) 13 q))
 
-  pub double-first : {a : ℕ} → a ≡ getD s i 0 → (a ≡ 13 → ⊥) → false ≡ doubleAt (drop i s)
-  double-first {a} p q = sym (three-bytes ∙ rw (← p, ne-eqb a 13 q))
+  pub double-first : (getD s i 0 ≡ 13 → ⊥) → false ≡ doubleAt (drop i s)
+  double-first q = sym (three-bytes ∙ rw (ne-eqb (getD s i 0) 13 q))
 
 -- FROM THE LEFT: k places further
 abbrev pub shifted : ℕ → Place → Place
@@ -76,16 +76,16 @@ none-before s = go (doubleReturn s)
     go (at j) = ap at (omega arith)
     go nowhere = refl
 
-pub double-found : (s : List ℕ) {i : ℕ} {t : Bool} → NoneBefore s i → i + 2 < length s → t ≡ doubleAt (drop i s) → t ≡ true → At i ≡ foundAt (doubleReturn s)
+pub double-found : (s : List ℕ) (i : ℕ) {last : ℕ} {t : Bool} → NoneBefore s i → last ≡ length s - 2 → i < last → t ≡ doubleAt (drop i s) → t ≡ true → At i ≡ foundAt (doubleReturn s)
 unfolding find
-double-found s {i} u h p q =
-    let e : doubleReturn (drop i s) ≡ at 0 = rw (drop-cons s i 0 (omega arith)) (ap (λ (b : Bool). pick b (at 0) (further (doubleReturn (drop (suc i) s)))) (rw (drop-cons s i 0 (omega arith)) at (sym p ∙ q))) in
+double-found s i u e h p q =
+    let here : doubleReturn (drop i s) ≡ at 0 = rw (drop-cons s i 0 (omega arith)) (ap (λ (b : Bool). pick b (at 0) (further (doubleReturn (drop (suc i) s)))) (rw (drop-cons s i 0 (omega arith)) at (sym p ∙ q))) in
     let z : i + 0 ≡ i = omega arith in
-    sym (ap foundAt (u ∙ ap (shifted i) e ∙ ap at z))
+    sym (ap foundAt (u ∙ ap (shifted i) here ∙ ap at z))
 
-pub none-here : (s : List ℕ) {i : ℕ} {t : Bool} → NoneBefore s i → i + 2 < length s → t ≡ doubleAt (drop i s) → t ≡ false → NoneBefore s (i + 1)
+pub none-here : (s : List ℕ) (i : ℕ) {last : ℕ} {t : Bool} → NoneBefore s i → last ≡ length s - 2 → i < last → t ≡ doubleAt (drop i s) → t ≡ false → NoneBefore s (i + 1)
 unfolding find
-none-here s {i} u h p q =
+none-here s i u x h p q =
     let a : i + 1 ≡ suc i = omega arith in
     let e : doubleReturn (drop i s) ≡ further (doubleReturn (drop (suc i) s)) = rw (drop-cons s i 0 (omega arith)) (ap (λ (b : Bool). pick b (at 0) (further (doubleReturn (drop (suc i) s)))) (rw (drop-cons s i 0 (omega arith)) at (sym p ∙ q))) in
     u ∙ ap (shifted i) e ∙ shifted-further i (doubleReturn (drop (suc i) s)) ∙ ap (λ (k : ℕ). shifted (i + 1) (doubleReturn (drop k s))) (sym a)
@@ -111,5 +111,5 @@ few-none (a ∷ b ∷ c ∷ s) h = absurd (omega arith)
 pub double-few : (s : List ℕ) → length s < 3 → Nowhere ≡ foundAt (doubleReturn s)
 double-few s h = sym (ap foundAt (few-none s (omega arith)))
 
-pub double-none : (s : List ℕ) {i last : ℕ} → NoneBefore s i → 3 ≤ length s → last ≡ length s - 2 → last ≤ i → Nowhere ≡ foundAt (doubleReturn s)
-double-none s {i} u m e h = sym (ap foundAt (u ∙ ap (shifted i) (few-none (drop i s) (omega (arith, length-drop i s)))))
+pub double-none : (s : List ℕ) (i : ℕ) {last : ℕ} → NoneBefore s i → 3 ≤ length s → last ≡ length s - 2 → last ≤ i → Nowhere ≡ foundAt (doubleReturn s)
+double-none s i u m e h = sym (ap foundAt (u ∙ ap (shifted i) (few-none (drop i s) (omega (arith, length-drop i s)))))
