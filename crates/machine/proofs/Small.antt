@@ -1,8 +1,7 @@
--- NO NUMBER GROWS FAST: the depth of a comment and the hashes of a raw string are at most one more than the characters read. So they fit where the count fits.
-use Prim.Native.Nat.{ℕ, zero, suc, _+_, _≤_, max}
+-- NO NUMBER GROWS FAST: the depth of a comment and the hashes of a raw string are at most the characters read. So they fit where that count fits.
+use Prim.Native.Nat.{ℕ, zero, suc, _≤_, max}
 use mathlib.Core.List.{List, [], _∷_}
 use mathlib.Core.Bool.{Bool, true, false, not}
-use lib.ListN.{length}
 use lib.Dec.{ltb}
 use native.Mathlib.Omega.{arith}
 use Rattle.basics.specs.Choice.{pick, and, or}
@@ -19,8 +18,7 @@ use Rattle.machine.specs.declared.Mode.the-variants.{Start, OneSlash, Tw
 use Rattle.machine.specs.declared.Last.{Last}
 use Rattle.machine.specs.declared.Last.the-variants.{PlainChar, ASlash, AStar}
 use Rattle.machine.specs.Machine.{Next, taken, silent, preceded, gapOut, atOther, atStart, atSuffix, lastOf, inBlock, atBlock, atDoc, atPlain, atIdent, signMark, exponentMark, atFraction, atExponent, atQuoted, atLife, rawAt, atRaw, step}
-use Rattle.machine.specs.declared.State.{State}
-use Rattle.machine.specs.Pieces.{begin, moved, feed, deepest}
+use Rattle.machine.specs.Pieces.{deepest}
 
 module _ (L : Lists) where
   record Small (k : ℕ) (n : Next) : Type 0 where
@@ -109,66 +107,60 @@ module _ (L : Lists) where
   in-open : (k st p n c : ℕ) → n ≤ k → Small k (step L st p (RawHashes n) c)
   in-open k st p n c h = either (is '#' c) (one c (RawHashes (suc n)) st (omega (arith, h))) (either (is 'double' c) (one c (RawBody n) st (omega (arith, h))) (none Broken st (omega arith)))
 
-  -- a step adds one at most
-  bound : (k st p : ℕ) (m : Mode) (c : ℕ) → 1 ≤ k → deepest m ≤ k → Small k (step L st p m c)
-  bound k st p (Start r) c l h = in-start k p r c
-  bound k st p (OneSlash r) c l h = either (is '/' c) (none (TwoSlashes r) st (omega arith)) (either (is '*' c) (none (SlashStar r) st (omega arith)) (in-after ('/' ∷ []) (atStart L p false c) (in-start k p false c)))
-  bound k st p (TwoSlashes r) c l h =
+  -- mode by mode
+  bound : (k st p : ℕ) (m : Mode) (c : ℕ) → deepest m ≤ k → Small k (step L st p m c)
+  bound k st p (Start r) c h = in-start k p r c
+  bound k st p (OneSlash r) c h = either (is '/' c) (none (TwoSlashes r) st (omega arith)) (either (is '*' c) (none (SlashStar r) st (omega arith)) (in-after ('/' ∷ []) (atStart L p false c) (in-start k p false c)))
+  bound k st p (TwoSlashes r) c h =
       either (is '!' c) (in-after ('/' ∷ '/' ∷ []) (taken c DocLine st) (one c DocLine st (omega arith)))
       (either (is '/' c) (none (ThreeSlashes r) st (omega arith)) (in-after (gapOut r) (atPlain L st p c) (either (is 'newline' c) (in-start k p true c) (none PlainLine st (omega arith)))))
-  bound k st p (ThreeSlashes r) c l h =
+  bound k st p (ThreeSlashes r) c h =
       either (is '/' c) (in-after (gapOut r) (silent PlainLine st) (none PlainLine st (omega arith))) (in-after ('/' ∷ '/' ∷ '/' ∷ []) (atDoc L st p c) (either (is 'newline' c) (in-start k p false c) (one c DocLine st (omega arith))))
-  bound k st p (SlashStar r) c l h =
+  bound k st p (SlashStar r) c h =
       either (is '!' c) (in-after ('/' ∷ '*' ∷ []) (atBlock true 0 PlainChar st c) (in-block k true 0 PlainChar st c (omega arith)))
       (either (is '*' c) (none (SlashStars r) st (omega arith)) (in-after (gapOut r) (atBlock false 0 PlainChar st c) (in-block k false 0 PlainChar st c (omega arith))))
-  bound k st p (SlashStars r) c l h =
+  bound k st p (SlashStars r) c h =
       either (or (is '*' c) (is '/' c)) (in-after (gapOut r) (atBlock false 0 AStar st c) (in-block k false 0 AStar st c (omega arith))) (in-after ('/' ∷ '*' ∷ '*' ∷ []) (atBlock true 0 AStar st c) (in-block k true 0 AStar st c (omega arith)))
-  bound k st p DocLine c l h = either (is 'newline' c) (in-start k p false c) (one c DocLine st (omega arith))
-  bound k st p PlainLine c l h = either (is 'newline' c) (in-start k p true c) (none PlainLine st (omega arith))
-  bound k st p (Block doc d x) c l h = in-block k doc d x st c h
-  bound k st p InWord c l h = in-ident k st p c
-  bound k st p InBadWord c l h = either (inInvalid L c) (one c InBadWord st (omega arith)) (in-start k p false c)
-  bound k st p InName c l h = either (going L c) (one c InName st (omega arith)) (in-start k p false c)
-  bound k st p Suffix c l h = in-suffix k st p c
-  bound k st p InString c l h = either (is 'double' c) (one c Suffix st (omega arith)) (either (is '\' c) (one c StringEscape st (omega arith)) (one c InString st (omega arith)))
-  bound k st p StringEscape c l h = one c InString st (omega arith)
-  bound k st p Broken c l h = none Broken st (omega arith)
-  bound k st p GotR c l h = either (is '#' c) (one c GotRHash st (omega arith)) (either (is 'double' c) (one c (RawBody 0) st (omega arith)) (in-ident k st p c))
-  bound k st p GotRHash c l h = either (starting L c) (one c InName st (omega arith)) (in-open k st p 1 c l)
-  bound k st p GotK c l h = either (is '#' c) (one c GotNameHash st (omega arith)) (in-ident k st p c)
-  bound k st p GotNameHash c l h = either (starting L c) (one c InName st (omega arith)) (in-hash k st p c)
-  bound k st p GotB c l h = either (is 'single' c) (one c GotByteQuote st (omega arith)) (either (is 'double' c) (one c InString st (omega arith)) (either (is 'r' c) (one c GotBR st (omega arith)) (in-ident k st p c)))
-  bound k st p GotC c l h = either (is 'double' c) (one c InString st (omega arith)) (either (is 'r' c) (one c GotBR st (omega arith)) (in-ident k st p c))
-  bound k st p GotBR c l h = either (is 'double' c) (one c (RawBody 0) st (omega arith)) (either (is '#' c) (one c (RawHashes 1) st (omega (arith, l))) (in-ident k st p c))
-  bound k st p GotHash c l h = in-hash k st p c
-  bound k st p GotQuote c l h = either (naming L c) (one c (QuotedName (is 'r' c)) st (omega arith)) (in-quoted k st c)
-  bound k st p GotByteQuote c l h = in-quoted k st c
-  bound k st p GotQuotes c l h = either (is 'single' c) (one c Suffix st (omega arith)) (in-suffix k st p c)
-  bound k st p WantsQuote c l h = either (is 'single' c) (one c Suffix st (omega arith)) (none Broken st (omega arith))
-  bound k st p (QuotedName r) c l h = either (is 'single' c) (one c Suffix st (omega arith)) (either (and r (is '#' c)) (one c GotNameHash st (omega arith)) (in-life k st p c))
-  bound k st p InLifetime c l h = in-life k st p c
-  bound k st p InQuotes c l h = either (is 'single' c) (one c Suffix st (omega arith)) (either (is '/' c) (none Broken st (omega arith)) (either (is 'newline' c) (one c WantsQuote st (omega arith)) (either (is '\' c) (one c QuotesEscape st (omega arith)) (one c InQuotes st (omega arith)))))
-  bound k st p QuotesEscape c l h = one c InQuotes st (omega arith)
-  bound k st p (RawHashes n) c l h = in-open k st p n c h
-  bound k st p (RawBody n) c l h = in-raw k st n c h
-  bound k st p (RawEnd n j) c l h =
+  bound k st p DocLine c h = either (is 'newline' c) (in-start k p false c) (one c DocLine st (omega arith))
+  bound k st p PlainLine c h = either (is 'newline' c) (in-start k p true c) (none PlainLine st (omega arith))
+  bound k st p (Block doc d x) c h = in-block k doc d x st c h
+  bound k st p InWord c h = in-ident k st p c
+  bound k st p InBadWord c h = either (inInvalid L c) (one c InBadWord st (omega arith)) (in-start k p false c)
+  bound k st p InName c h = either (going L c) (one c InName st (omega arith)) (in-start k p false c)
+  bound k st p Suffix c h = in-suffix k st p c
+  bound k st p InString c h = either (is 'double' c) (one c Suffix st (omega arith)) (either (is '\' c) (one c StringEscape st (omega arith)) (one c InString st (omega arith)))
+  bound k st p StringEscape c h = one c InString st (omega arith)
+  bound k st p Broken c h = none Broken st (omega arith)
+  bound k st p GotR c h = either (is '#' c) (one c GotRHash st (omega arith)) (either (is 'double' c) (one c (RawBody 0) st (omega arith)) (in-ident k st p c))
+  bound k st p GotRHash c h = either (starting L c) (one c InName st (omega arith)) (in-open k st p 1 c h)
+  bound k st p GotK c h = either (is '#' c) (one c GotNameHash st (omega arith)) (in-ident k st p c)
+  bound k st p GotNameHash c h = either (starting L c) (one c InName st (omega arith)) (in-hash k st p c)
+  bound k st p GotB c h = either (is 'single' c) (one c GotByteQuote st (omega arith)) (either (is 'double' c) (one c InString st (omega arith)) (either (is 'r' c) (one c GotBR st (omega arith)) (in-ident k st p c)))
+  bound k st p GotC c h = either (is 'double' c) (one c InString st (omega arith)) (either (is 'r' c) (one c GotBR st (omega arith)) (in-ident k st p c))
+  bound k st p GotBR c h = either (is 'double' c) (one c (RawBody 0) st (omega arith)) (either (is '#' c) (one c (RawHashes 1) st (omega arith)) (in-ident k st p c))
+  bound k st p GotHash c h = in-hash k st p c
+  bound k st p GotQuote c h = either (naming L c) (one c (QuotedName (is 'r' c)) st (omega arith)) (in-quoted k st c)
+  bound k st p GotByteQuote c h = in-quoted k st c
+  bound k st p GotQuotes c h = either (is 'single' c) (one c Suffix st (omega arith)) (in-suffix k st p c)
+  bound k st p WantsQuote c h = either (is 'single' c) (one c Suffix st (omega arith)) (none Broken st (omega arith))
+  bound k st p (QuotedName r) c h = either (is 'single' c) (one c Suffix st (omega arith)) (either (and r (is '#' c)) (one c GotNameHash st (omega arith)) (in-life k st p c))
+  bound k st p InLifetime c h = in-life k st p c
+  bound k st p InQuotes c h = either (is 'single' c) (one c Suffix st (omega arith)) (either (is '/' c) (none Broken st (omega arith)) (either (is 'newline' c) (one c WantsQuote st (omega arith)) (either (is '\' c) (one c QuotesEscape st (omega arith)) (one c InQuotes st (omega arith)))))
+  bound k st p QuotesEscape c h = one c InQuotes st (omega arith)
+  bound k st p (RawHashes n) c h = in-open k st p n c h
+  bound k st p (RawBody n) c h = in-raw k st n c h
+  bound k st p (RawEnd n j) c h =
       let x : max n j ≤ k = h in
       either (is '#' c) (one c (rawAt n j) st (raw-deep k n j (omega (arith, x)) (omega (arith, x)))) (in-raw k st n c (omega (arith, x)))
-  bound k st p GotZero c l h = either (or (is 'b' c) (is 'o' c)) (one c (InBased false) st (omega arith)) (either (is 'x' c) (one c (InHex false) st (omega arith)) (either (decimals c) (one c InDigits st (omega arith)) (in-fr k st p c)))
-  bound k st p InDigits c l h = either (decimals c) (one c InDigits st (omega arith)) (in-fr k st p c)
-  bound k st p (InBased x) c l h = either (decimals c) (one c (InBased (or x (digit c))) st (omega arith)) (either x (in-fr k st p c) (in-suffix k st p c))
-  bound k st p (InHex x) c l h = either (hexadecimals c) (one c (InHex (or x (hexDigit c))) st (omega arith)) (either x (in-fr k st p c) (in-suffix k st p c))
-  bound k st p GotDot c l h = either (or (is 'dot' c) (starting L c)) (in-start k p false c) (either (digit c) (one c InFraction st (omega arith)) (in-start k p false c))
-  bound k st p InFraction c l h = either (decimals c) (one c InFraction st (omega arith)) (either (exponentMark c) (one c GotE st (omega arith)) (in-suffix k st p c))
-  bound k st p GotE c l h = either (signMark c) (one c InExponent st (omega arith)) (in-exp k st p c)
-  bound k st p InExponent c l h = in-exp k st p c
+  bound k st p GotZero c h = either (or (is 'b' c) (is 'o' c)) (one c (InBased false) st (omega arith)) (either (is 'x' c) (one c (InHex false) st (omega arith)) (either (decimals c) (one c InDigits st (omega arith)) (in-fr k st p c)))
+  bound k st p InDigits c h = either (decimals c) (one c InDigits st (omega arith)) (in-fr k st p c)
+  bound k st p (InBased x) c h = either (decimals c) (one c (InBased (or x (digit c))) st (omega arith)) (either x (in-fr k st p c) (in-suffix k st p c))
+  bound k st p (InHex x) c h = either (hexadecimals c) (one c (InHex (or x (hexDigit c))) st (omega arith)) (either x (in-fr k st p c) (in-suffix k st p c))
+  bound k st p GotDot c h = either (or (is 'dot' c) (starting L c)) (in-start k p false c) (either (digit c) (one c InFraction st (omega arith)) (in-start k p false c))
+  bound k st p InFraction c h = either (decimals c) (one c InFraction st (omega arith)) (either (exponentMark c) (one c GotE st (omega arith)) (in-suffix k st p c))
+  bound k st p GotE c h = either (signMark c) (one c InExponent st (omega arith)) (in-exp k st p c)
+  bound k st p InExponent c h = in-exp k st p c
 
-  pub small : (cs : List ℕ) (s : State) (k : ℕ) → 1 ≤ k → deepest (s .mode) ≤ k → deepest (feed L s cs .state .mode) ≤ k + length cs
-  small [] s k l h = omega (arith, h)
-  small (c ∷ cs) s k l h =
-      let n = step L (s .from) (s .at) (s .mode) c in
-      omega (arith, small cs (moved s c n) (suc k) (omega (arith, l)) (bound k (s .from) (s .at) (s .mode) c l h .it))
-
--- from the beginning
-pub few-deep : (L : Lists) (cs : List ℕ) → deepest (feed L begin cs .state .mode) ≤ suc (length cs)
-few-deep L cs = omega (arith, small L cs begin 1 (omega arith) (omega arith))
+-- A STEP ADDS ONE AT MOST to the largest number of a mode
+pub step-deep : (L : Lists) (k st p : ℕ) (m : Mode) (c : ℕ) → deepest m ≤ k → deepest (step L st p m c .mode) ≤ suc k
+step-deep L k st p m c h = bound L k st p m c h .it
