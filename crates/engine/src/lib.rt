@@ -1,11 +1,27 @@
-// The machine of the key over a run of bytes, with CR LF read as LF: what is known of the key is laid into a lent buffer, or only counted.
+// The machine of the key (crate `machine`) over a run of bytes, with CR LF read as LF: what is known of the key is laid into a lent buffer, or only
+// counted. A key is measured and written by the same code.
+ghost use mathlib.Core.Path.{_≡_};
+ghost use lib.ListN.{length};
+ghost use Rattle.basics.specs.Choice.{pick};
+ghost use Rattle.token.specs.Lists.{lent};
+ghost use Rattle.machine.specs.Machine.{step};
+ghost use Rattle.turns.specs.Shown.{beforeOut};
+ghost use Rattle.turns.specs.declared.Before.the-variants.{Nothing, Newline};
+ghost use Rattle.engine.specs.Laid.{Laid, Room};
+ghost use Rattle.engine.specs.Chars.{stepBytes, Laying, CharFeeding, CharFed};
+ghost use Rattle.engine.specs.Runs.{state, Feeding, Fed};
+ghost use Rattle.engine.specs.Ends.{Ends};
+ghost use Rattle.engine.specs.Wholes.{Keying, Keyed};
 use machine::Mode;
+use text::CodePoint;
 use text::Decoded;
 use turns::Before;
 use turns::Shown;
 
-// Lays bytes at a place, or only counts them; the place past them.
+// Lays bytes at a place, and hands back the place past them.
 fn lay(writing: bool, s: &[u8], out: &mut [u8], n: usize) -> usize
+    requires { ⌜ Room writing (now out) n (length (now s)) ⌝ }
+    ensures { λ r. ⌜ Laid writing (now (s .entry)) (now (out .entry)) n (now (out .exit)) r ⌝ }
 {
     if writing {
         return puts::put_bytes(out, n, s);
@@ -15,6 +31,8 @@ fn lay(writing: bool, s: &[u8], out: &mut [u8], n: usize) -> usize
 
 // What was held back.
 fn lay_before(writing: bool, before: Before, out: &mut [u8], n: usize) -> usize
+    requires { ⌜ Room writing (now out) n (length (beforeOut before)) ⌝ }
+    ensures { λ r. ⌜ Laid writing (beforeOut before) (now (out .entry)) n (now (out .exit)) r ⌝ }
 {
     match before {
         Before::Nothing => n,
@@ -27,9 +45,10 @@ fn lay_before(writing: bool, before: Before, out: &mut [u8], n: usize) -> usize
     }
 }
 
-// What is shown of the character that stands from `i` to `next`.
-fn lay_shown(
+// What was held back, and then what is shown of the character that stands from `i` to `next`.
+fn lay_step(
     writing: bool,
+    before: Before,
     shown: Shown,
     text: &[u8],
     i: usize,
@@ -37,24 +56,67 @@ fn lay_shown(
     out: &mut [u8],
     n: usize,
 ) -> usize
+    requires { ⌜ Laying writing before shown (now text) i next (now out) n ⌝ }
+    ensures { λ r. ⌜ Laid writing (stepBytes before shown (now (text .entry)) i next) (now (out .entry)) n (now (out .exit)) r ⌝ }
 {
+    let k = lay_before(writing, before, out, n);
     match shown {
-        Shown::Itself => lay(writing, &text[i..next], out, n),
-        Shown::Line => lay(writing, b"\n", out, n),
-        Shown::None => n,
+        Shown::Itself => lay(writing, &text[i..next], out, k),
+        Shown::Line => lay(writing, b"\n", out, k),
+        Shown::None => k,
     }
 }
 
-// The place of the token begun: this one, if a token begins here.
-fn begun(begins: bool, at: usize, from: usize) -> usize
+// Where the token begun stands: here, if one begins here.
+fn begun(begins: bool, here: usize, before: usize) -> usize
+    ensures { λ r. ⌜ r ≡ pick begins here before ⌝ }
 {
     if begins {
-        return at;
+        return here;
     }
-    from
+    before
 }
 
-// What is left of a run: the machine's mode, the place of the token begun, the place reached, and the place past what was laid.
+// The mode after a character, the place of the token begun, and the place past what was laid.
+pub struct Kept {
+    pub mode: Mode,
+    pub from: usize,
+    pub n: usize,
+}
+
+// ONE CHARACTER, which stands from `i` to `next`.
+fn feed_char(
+    writing: bool,
+    mode: Mode,
+    from: usize,
+    at: usize,
+    c: CodePoint,
+    text: &[u8],
+    i: usize,
+    next: usize,
+    starts: &[u32],
+    continues: &[u32],
+    emoji: &[u32],
+    out: &mut [u8],
+    n: usize,
+) -> Kept
+    requires { ⌜ CharFeeding writing mode from at c (now text) i next (now starts) (now continues) (now emoji) (now out) n ⌝ }
+    ensures { λ r. ⌜ CharFed writing (step (lent (now (starts .entry)) (now (continues .entry)) (now (emoji .entry))) from at mode c) (now (out .entry)) n (now (out .exit)) r ⌝ }
+{
+    let stepped = turns::step(mode, c, starts, continues, emoji);
+    let before = stepped.before;
+    let shown = stepped.shown;
+    let after = stepped.mode;
+    let past = lay_step(writing, before, shown, text, i, next, out, n);
+    let place = begun(stepped.begins, at, from);
+    Kept {
+        mode: after,
+        from: place,
+        n: past,
+    }
+}
+
+// What a run leaves: the machine's state (its mode, the place of the token begun, the place reached), and the place past what was laid.
 pub struct Ran {
     pub mode: Mode,
     pub from: usize,
@@ -62,7 +124,7 @@ pub struct Ran {
     pub n: usize,
 }
 
-// A RUN OF BYTES from a state of the machine on.
+// A RUN OF BYTES, from a state of the machine on. It ends at an ill-formed sequence, as its characters do.
 pub fn run(
     writing: bool,
     mode: Mode,
@@ -74,6 +136,8 @@ pub fn run(
     emoji: &[u32],
     out: &mut [u8],
 ) -> Ran
+    requires { ⌜ Feeding writing (state mode from at) (now text) (now starts) (now continues) (now emoji) (now out) ⌝ }
+    ensures { λ r. ⌜ Fed writing (lent (now (starts .entry)) (now (continues .entry)) (now (emoji .entry))) (state mode from at) (now (text .entry)) (now (out .entry)) (now (out .exit)) r ⌝ }
 {
     let mut now_mode = mode;
     let mut now_from = from;
@@ -88,14 +152,25 @@ pub fn run(
                     i = next;
                     continue;
                 }
-                let stepped = turns::step(now_mode, c, starts, continues, emoji);
-                let before = stepped.before;
-                let shown = stepped.shown;
-                let m = stepped.mode;
-                let k = lay_before(writing, before, out, n);
-                n = lay_shown(writing, shown, text, i, next, out, k);
-                now_from = begun(stepped.begins, now_at, now_from);
-                now_mode = m;
+                let kept = feed_char(
+                    writing,
+                    now_mode,
+                    now_from,
+                    now_at,
+                    c,
+                    text,
+                    i,
+                    next,
+                    starts,
+                    continues,
+                    emoji,
+                    out,
+                    n,
+                );
+                let after = kept.mode;
+                now_mode = after;
+                now_from = kept.from;
+                n = kept.n;
                 now_at += w;
                 i = next;
             }
@@ -111,13 +186,15 @@ pub fn run(
     }
 }
 
-// What the end of a text does: something held back is still to be written, or the token begun is broken.
+// What the end of a text does: what was held back is still to be written, or the token begun is broken.
 pub enum End {
     Rest(Before),
     Broken,
 }
 
+// The newline of a run of trivia, unless one stands right before.
 fn held_newline(gap: bool) -> Before
+    ensures { λ r. ⌜ r ≡ pick gap Nothing Newline ⌝ }
 {
     if gap {
         return Before::Nothing;
@@ -127,6 +204,7 @@ fn held_newline(gap: bool) -> Before
 
 // THE END of a text.
 pub fn end_of(mode: Mode) -> End
+    ensures { λ r. ⌜ Ends mode r ⌝ }
 {
     match mode {
         Mode::OneSlash { gap: _ } => End::Rest(Before::Slash),
@@ -158,13 +236,13 @@ pub fn end_of(mode: Mode) -> End
     }
 }
 
-// What a key needs: n bytes, or that its first broken token is mended.
+// What a key needs: so many bytes, or that its first broken token is mended.
 pub enum Need {
     Bytes(usize),
     Mending(usize),
 }
 
-// A WHOLE TEXT: its key is laid, or only counted, unless a token is broken.
+// A WHOLE TEXT: what its key needs; where it is to be written, it is laid too.
 pub fn whole(
     writing: bool,
     text: &[u8],
@@ -173,6 +251,8 @@ pub fn whole(
     emoji: &[u32],
     out: &mut [u8],
 ) -> Need
+    requires { ⌜ Keying writing (now text) (now starts) (now continues) (now emoji) (now out) ⌝ }
+    ensures { λ r. ⌜ Keyed writing (lent (now (starts .entry)) (now (continues .entry)) (now (emoji .entry))) (now (text .entry)) (now (out .entry)) (now (out .exit)) r ⌝ }
 {
     let begin = Mode::Start { gap: false };
     let ran = run(writing, begin, 0, 0, text, starts, continues, emoji, out);

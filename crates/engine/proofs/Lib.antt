@@ -1,0 +1,5 @@
+pub mod Lays
+pub mod Feeds
+pub mod Ends
+pub mod Loops
+pub mod Wholes
