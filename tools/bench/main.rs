@@ -6,10 +6,12 @@
 //!
 //!     bench text KIB TEXT                    the text itself
 //!
-//! WORK is key, tokens or check; SIDE is rattle, 000 or before; TEXT is ascii, mixed or names.
+//! WORK is key, tokens or check; SIDE is rattle, 000 or before; TEXT is ascii, mixed, names or crlf.
 //!
 //! All sides take bytes. "key" is the key into a lent buffer; 000 has none, so there it is 000's
-//! `tokenize` and, in the same pass, the key by the scope paper's words, in plain Rust. "tokens" is the
+//! `tokenize` and, in the same pass, the key by the scope paper's words, in plain Rust. It is the key of the
+//! text with each CR LF as LF: a text without a CR is read as it is, another is first written so into a
+//! buffer that is kept. (Another checkout may key the text as it stands: then it does less.) "tokens" is the
 //! kind, suffix, length, start and line of every token into a lent buffer; 000 has no lines, so there the
 //! LFs of each token are counted, in plain Rust. (Another checkout may have records without lines: then it
 //! does less.) "check" is what comes before the tokens: UTF-8 and the rules of the lists, for 000
@@ -25,6 +27,7 @@ use std::time::Instant;
 
 use lists::pairs;
 use lovemudarn::{Lists, Record};
+use memchr::memchr;
 use rustc_lexer::{LiteralKind, TokenKind};
 use source::{Choice, source};
 
@@ -57,9 +60,34 @@ fn is_broken(kind: TokenKind) -> bool {
     }
 }
 
+/// The text with each CR LF as LF, in the buffer where that is not the text itself. `None` where it has CR CR LF.
+fn replaced<'a>(text: &'a str, buffer: &'a mut String) -> Option<&'a str> {
+    let Some(mut at) = memchr(b'\r', text.as_bytes()) else {
+        return Some(text);
+    };
+    buffer.clear();
+    let mut rest = text;
+    loop {
+        let after = &rest[at + 1..];
+        if after.starts_with("\r\n") {
+            return None;
+        }
+        // The CR goes where LF follows, and stays elsewhere.
+        let kept = if after.starts_with('\n') { at } else { at + 1 };
+        buffer.push_str(&rest[..kept]);
+        rest = after;
+        let Some(next) = memchr(b'\r', rest.as_bytes()) else {
+            break;
+        };
+        at = next;
+    }
+    buffer.push_str(rest);
+    Some(buffer)
+}
+
 /// The bytes of the key. `None` where there is none, or where it has no room.
-fn their_key(bytes: &[u8], out: &mut [u8]) -> Option<usize> {
-    let text = std::str::from_utf8(bytes).ok()?;
+fn their_key(bytes: &[u8], buffer: &mut String, out: &mut [u8]) -> Option<usize> {
+    let text = replaced(std::str::from_utf8(bytes).ok()?, buffer)?;
     let (mut at, mut used, mut gap) = (0, 0, false);
     for token in rustc_lexer::tokenize(text, rustc_lexer::FrontmatterAllowed::No) {
         let next = at + token.len as usize;
@@ -68,7 +96,7 @@ fn their_key(bytes: &[u8], out: &mut [u8]) -> Option<usize> {
         }
         let trivia = is_trivia(token.kind);
         if !trivia {
-            let piece = &bytes[at..next];
+            let piece = &text.as_bytes()[at..next];
             out.get_mut(used..used + piece.len())?.copy_from_slice(piece);
             used += piece.len();
         } else if !gap {
@@ -154,6 +182,7 @@ struct Bench<'a> {
     lists: Lists<'a>,
     ours: Vec<u8>,
     theirs: Vec<u8>,
+    their_replaced: String,
     our_records: Vec<Record>,
     #[cfg(before)]
     before_records: Vec<before::Record>,
@@ -197,6 +226,7 @@ impl Bench<'_> {
             lists,
             ours: vec![1; bytes],
             theirs: vec![1; bytes],
+            their_replaced: String::with_capacity(bytes),
             our_records: blank(tokens),
             #[cfg(before)]
             before_records: blank(tokens),
@@ -211,10 +241,10 @@ impl Bench<'_> {
             (Side::Rattle, work) => archive!(lovemudarn, self, our_records, work, text),
             #[cfg(before)]
             (Side::Before, work) => archive!(before, self, before_records, work, text),
-            (Side::Rust, Work::Key) => their_key(text, &mut self.theirs),
+            (Side::Rust, Work::Key) => their_key(text, &mut self.their_replaced, &mut self.theirs),
             (Side::Rust, Work::KeyCleared) => {
                 black_box(&mut self.theirs).fill(0);
-                their_key(text, &mut self.theirs)
+                their_key(text, &mut self.their_replaced, &mut self.theirs)
             }
             (Side::Rust, Work::Tokens) => their_tokens(text, &mut self.their_records),
             (Side::Rust, Work::Check) => std::str::from_utf8(text).ok().map(str::len).map(|_| 0),
@@ -223,14 +253,19 @@ impl Bench<'_> {
 
     /// The bytes of the key and the tokens, where every archive gives those of 000.
     fn agree(&mut self) -> Option<(usize, usize)> {
-        archives().try_fold((0, 0), |_, &(side, _)| self.agrees(side))
+        #[cfg(before)]
+        self.agrees(Side::Before)?;
+        self.agrees(Side::Rattle)
     }
 
     fn agrees(&mut self, side: Side) -> Option<(usize, usize)> {
         // Nothing is left of what another archive wrote.
         self.ours.fill(1);
         let key = self.run(Work::Key, side)?;
-        if self.run(Work::Key, Side::Rust)? != key || self.ours[..key] != self.theirs[..key] {
+        let theirs = self.run(Work::Key, Side::Rust)?;
+        // Another checkout may key the text as it stands.
+        let compared = side == Side::Rattle || !self.text.contains(&b'\r');
+        if compared && self.ours[..key] != self.theirs[..theirs] {
             return None;
         }
         let tokens = self.run(Work::Tokens, side)?;
@@ -281,13 +316,14 @@ fn heads() -> String {
 fn table(rounds: usize, lists: Lists) -> Result<(), String> {
     println!("{}", heads());
     for (name, choice) in TEXTS {
-        let sizes: &[usize] = if choice == Choice::Names { &[64] } else { &[16, 32, 64, 128] };
+        let once = choice == Choice::Names || choice == Choice::CrLf;
+        let sizes: &[usize] = if once { &[64] } else { &[16, 32, 64, 128] };
         for &kib in sizes {
             let text = source(kib * 1024, choice);
             let mut bench = Bench::new(text, lists);
             bench.agree().ok_or(format!("{name}, {kib} KiB: the sides differ"))?;
             let mut work = vec![(Work::Key, "key", "as left")];
-            if kib == 64 && choice != Choice::Names {
+            if kib == 64 && !once {
                 work.push((Work::KeyCleared, "key", "cleared"));
                 work.push((Work::Check, "check", "none"));
             }
@@ -339,8 +375,12 @@ fn table(rounds: usize, lists: Lists) -> Result<(), String> {
     Ok(())
 }
 
-const TEXTS: [(&str, Choice); 3] =
-    [("ASCII", Choice::Ascii), ("mixed", Choice::Mixed), ("names", Choice::Names)];
+const TEXTS: [(&str, Choice); 4] = [
+    ("ASCII", Choice::Ascii),
+    ("mixed", Choice::Mixed),
+    ("names", Choice::Names),
+    ("CRLF", Choice::CrLf),
+];
 
 fn choice(word: &str) -> Result<Choice, String> {
     let named = TEXTS.iter().find(|(name, _)| name.eq_ignore_ascii_case(word));

@@ -233,6 +233,8 @@ pub enum Choice {
     Mixed,
     /// Names outside ASCII and blanks, nothing else: the lists are searched at almost every character.
     Names,
+    /// A source of ASCII alone whose lines end with CR LF.
+    CrLf,
 }
 
 /// A text of exactly that many bytes.
@@ -241,22 +243,26 @@ pub fn source(bytes: usize, choice: Choice) -> String {
         return names(bytes);
     }
     let outside = choice == Choice::Mixed;
+    let end = if choice == Choice::CrLf { "\r\n" } else { "\n" };
     let mut writer = Writer { chance: Chance(20), outside, line: String::new() };
-    let mut text = String::from("//! Rules of the department.\n\nuse std::fmt;\n\n");
+    let mut text = "//! Rules of the department.\n\nuse std::fmt;\n\n".replace('\n', end);
     loop {
         writer.item();
-        if text.len() + writer.line.len() > bytes {
+        let item = writer.line.replace('\n', end);
+        if text.len() + item.len() > bytes {
             break;
         }
-        text.push_str(&writer.line);
+        text.push_str(&item);
         writer.line.clear();
     }
     // The rest is a comment, or blanks where even that has no room.
     let rest = bytes - text.len();
-    if rest >= 4 {
+    if rest >= 3 + end.len() {
         text.push_str("//");
-        text.extend(std::iter::repeat_n(" -", rest).flat_map(str::chars).take(rest - 3));
-        text.push('\n');
+        text.extend(
+            std::iter::repeat_n(" -", rest).flat_map(str::chars).take(rest - 2 - end.len()),
+        );
+        text.push_str(end);
     } else {
         text.extend(std::iter::repeat_n('\n', rest));
     }

@@ -1,4 +1,7 @@
-"""Which vectors of operation 17, the key call, are stored, file by file. tools/oracle/README.md describes them."""
+"""Which vectors of operation 17, the key call, are stored, file by file: but those about ends of lines, which common/line_end_files.py makes.
+
+tools/oracle/README.md describes them.
+"""
 
 import sys
 
@@ -40,7 +43,7 @@ KEYS = [
     ("\na\n", "\na\n"), ("\na", "\na"), ("a\n", "a\n"), ("//\na//", "\na\n"), ("/**/a/**/", "\na\n"),
     # Doc comments are meaningful, newlines inside them too; four marks are no doc comment.
     ("/// a", "/// a"), ("/// a\n", "/// a\n"), ("/// a\n\n b", "/// a\nb"), ("///", "///"), ("//!", "//!"),
-    ("//! a\n//! b\n", "//! a\n//! b\n"), ("/// a\r\nb", "/// a\r\nb"), ("//// a\n/// b\n// c\n", "\n/// b\n"),
+    ("//! a\n//! b\n", "//! a\n//! b\n"), ("/// a\r\nb", "/// a\nb"), ("//// a\n/// b\n// c\n", "\n/// b\n"),
     ("/** a */", "/** a */"), ("/*! a */", "/*! a */"), ("/** a *//*! b */", "/** a *//*! b */"),
     ("/** a */ /* b */ /*! c */", "/** a */\n/*! c */"), ("/**\n  a\n*/ b", "/**\n  a\n*/\nb"),
     ("/*** a */b", "\nb"), ("/**//**/b", "\nb"), ("/*!*/b", "/*!*/b"), ("/** /* a */ */ b", "/** /* a */ */\nb"),
@@ -158,7 +161,7 @@ MAKERS = [airy, airy, glued, damaged]
 
 
 def fragments(maker):
-    """Each text that is keyed and its key, which is keyed again; texts that are broken."""
+    """Each text that is keyed and its key, which is keyed again; texts that are broken. As what a text is taken its tokens as it stands decide."""
     numbers = Numbers(SEED)
 
     def fill(calls):
@@ -166,14 +169,15 @@ def fragments(maker):
         seen = set()
         while any(left.values()):
             text = numbers.pick(MAKERS)(numbers).encode("utf-8")
-            _, key = calls.keyed(text)
-            if text in seen or not left[key is not None]:
+            _, as_it_stands = calls.keyed_replaced(text)
+            if text in seen or not left[as_it_stands is not None]:
                 continue
             seen.add(text)
-            left[key is not None] -= 1
+            left[as_it_stands is not None] -= 1
             calls.key_somewhere(numbers, text)
-            if key is not None:
-                calls.key_somewhere(numbers, key)
+            if as_it_stands is not None:
+                _, key = calls.keyed(text)
+                calls.key_somewhere(numbers, as_it_stands if key is None else key)
 
     return [maker.section(NO_LISTS, fill)]
 
@@ -295,9 +299,13 @@ class Maker:
     def section(self, chosen, fill):
         calls = Calls(self.oracle, chosen)
         fill(calls)
-        for number in calls.key_answers():
+        for number, _ in calls.key_answers():
             self.counts[number] = self.counts.get(number, 0) + 1
         return calls.section()
+
+    def begun(self):
+        """How many answers begin with each number."""
+        return ", ".join(f"{self.counts[number]} with {number}" for number in sorted(self.counts))
 
 
 def make(oracle, real):
@@ -311,6 +319,5 @@ def make(oracle, real):
         "key-refused.vec": refused(maker),
         "key-room.vec": room(maker),
     }
-    said = ", ".join(f"{maker.counts[number]} with {number}" for number in sorted(maker.counts))
-    print(f"keys: answers that begin {said}", file=sys.stderr)
+    print(f"keys: answers that begin {maker.begun()}", file=sys.stderr)
     return files

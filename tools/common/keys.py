@@ -3,11 +3,40 @@
 Trivia are whitespace and the comments whose doc style is none. Broken are the literals that
 are not terminated or have no hash count, and every block comment that is not terminated. A key
 is the text with each longest run of trivia, at the ends too, as one newline byte.
+
+The text is here the lent one with each CR LF replaced by LF (document 02, W3): the oracle reads the
+replaced text, and the place of a broken token is one in it. A text that has CR CR LF has no key: what
+is left of it, CR LF, would be replaced by a second keying.
 """
 
 import itertools
+import re
 
 from common.ending import fail
+
+
+def replaced(text):
+    """The text with each CR LF as LF, from the left, each byte used once."""
+    found = text.replace(b"\r\n", b"\n")
+    # A second witness: a CR is left out where LF follows directly, and every other byte stays.
+    kept = bytearray()
+    for at, byte in enumerate(text):
+        if byte != 0x0D or text[at + 1 : at + 2] != b"\n":
+            kept.append(byte)
+    if found != kept:
+        fail(f"two ways of replacing CR LF differ: {text.hex()}")
+    return found
+
+
+def with_cr_lf(text):
+    """The same text as another machine checks it out: CR before each LF that has none."""
+    return re.sub(rb"(?<!\r)\n", b"\r\n", text)
+
+
+def first_doubled(text):
+    """The place of the first CR CR LF in a lent text, or None."""
+    place = text.find(b"\r\r\n")
+    return None if place < 0 else place
 
 
 class Piece:

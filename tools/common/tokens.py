@@ -2,13 +2,14 @@
 
 What the Rust can say comes from the oracle. The Rust has no word for a refusal: there the
 rules of the scope paper are applied here, in the plainest way and in the paper's order. The
-Rust has no lines either: request W5 says what they are, and line_at counts them.
+Rust has no lines either: request W5 says what they are, and line_at counts them. The key is
+taken of the text with each CR LF replaced by LF (request W3); all other calls read the lent text.
 """
 
 import itertools
 
 from common.ending import fail
-from common.keys import first_broken, key_of, pieces
+from common.keys import first_broken, first_doubled, key_of, pieces, replaced, with_cr_lf
 from common.lists import bad_index
 from common.packing import (
     ANSWER_LIMIT, GUARDED, KEY, LIST, MOST_ROOM, ONE, RAW, RECORDS, SHEBANG, SLOTS, TOKENS, TOKEN_SIZE, VERDICT,
@@ -113,7 +114,9 @@ class Calls:
         self.lists = lists
         self.bad = [bad_index(numbers) for numbers in lists]
         self.vectors = {}
+        # What is known of lent texts, and of replaced ones.
         self.keys = {}
+        self.replaced = {}
         self.size = 0
         self.panics = 0
         self.too_long = 0
@@ -229,34 +232,47 @@ class Calls:
         """A refusal's numbers and no key, or None and the key: what every room has in common."""
         if text not in self.keys:
             refused = self.refusal(3, text)
-            key = None
-            if refused is None:
-                found = pieces(text, self.listed(0, text, self.ask("steps", "off", text.hex())))
-                place = first_broken(found)
-                refused = None if place is None else numbers_of(6, place, 0)
-                key = key_of(found) if refused is None else None
-            self.keys[text] = refused, key
-            # True of every key: it is no longer than its text, and its own key.
-            if key is not None and (len(key) > len(text) or self.keyed(key) != (None, key)):
-                fail(f"not a key: {key.hex()}, of {text.hex()}")
+            if refused is None and first_doubled(text) is not None:
+                refused = numbers_of(10, first_doubled(text), 0)
+            self.keys[text] = self.keyed_replaced(replaced(text)) if refused is None else (refused, None)
+            self.check_keyed(text)
         return self.keys[text]
 
-    def key(self, room, fill, text):
+    def keyed_replaced(self, text):
+        """The same of a replaced text, by its tokens. Lent texts that differ in ends of lines alone have one."""
+        if text not in self.replaced:
+            found = pieces(text, self.listed(0, text, self.ask("steps", "off", text.hex())))
+            place = first_broken(found)
+            self.replaced[text] = (None, key_of(found)) if place is None else (numbers_of(6, place, 0), None)
+        return self.replaced[text]
+
+    def check_keyed(self, text):
+        """True of every key: it is no longer than its replaced text, its own key, and that of the text with CR LF."""
+        refused, key = self.keys[text]
+        if key is not None and (len(key) > len(replaced(text)) or self.keyed(key) != (None, key)):
+            fail(f"not a key: {key.hex()}, of {text.hex()}")
+        # The place of a broken token is the same one too.
+        broken = refused is not None and numbers_in(refused)[0] == 6
+        if (key is not None or broken) and self.keyed(with_cr_lf(text)) != (refused, key):
+            fail(f"not the same with CR LF: {text.hex()}")
+
+    def key_answer(self, room, fill, text):
         """With that many bytes lent, each of which is `fill`: the answer, and what they hold then."""
         refused, key = self.keyed(text)
         buffer = bytes([fill]) * room
         if refused is None and len(key) > room:
             refused = numbers_of(7, len(key), 0)
         if refused is None:
-            answer = numbers_of(0, len(key), 0) + key + buffer[len(key) :]
-        else:
-            answer = refused + buffer
-        self.add(KEY, numbers_of(room, fill) + text, answer)
+            return numbers_of(0, len(key), 0) + key + buffer[len(key) :]
+        return refused + buffer
+
+    def key(self, room, fill, text):
+        self.add(KEY, numbers_of(room, fill) + text, self.key_answer(room, fill, text))
 
     def key_answers(self):
-        """The first number of each answer of operation 17."""
+        """The first number of each answer of operation 17, and the text."""
         made = (vector_at(data, 0) for data in self.vectors)
-        return [numbers_in(answer[:4])[0] for operation, _, answer in made if operation == KEY]
+        return [(numbers_in(answer[:4])[0], given[8:]) for operation, given, answer in made if operation == KEY]
 
     def key_somewhere(self, numbers, text):
         """In a room by chance: mostly exactly enough or a little more, now and then a byte less."""

@@ -389,8 +389,8 @@ impl TokenKind {
         )
     }
 
-    /// Whether a text with such a token has no key: a literal that is not closed or has no
-    /// count of hashes, a block comment that is not closed.
+    /// Whether a text has no key if its replaced text, in which each CR LF is LF, has such a token: a
+    /// literal that is not closed or has no count of hashes, a block comment that is not closed.
     pub fn is_broken(self) -> bool {
         match self {
             TokenKind::BlockComment { terminated, .. } => !terminated,

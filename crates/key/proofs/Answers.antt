@@ -4,6 +4,7 @@ use mathlib.Core.Path.{_≡_, sym, ap, _∙_}
 use mathlib.Core.List.{List}
 use Rattle.refusal.specs.declared.Numbers.{Numbers}
 use Rattle.token.specs.Lists.{Lists}
+use Rattle.line_ends.specs.LineEnds.{replaced}
 use Rattle.canon.specs.Key.{keyOf}
 use Rattle.key.specs.declared.KeyAnswer.{KeyAnswer}
 use Rattle.key.specs.Answers.{bufferAfter, Keying}
@@ -14,7 +15,7 @@ module _ {limit : ℕ} {s before after later : List ℕ} {L : Lists} {r q : KeyA
   one-answer = f .answer ∙ sym (g .answer)
 
   pub one-buffer : after ≡ later
-  one-buffer = f .holds ∙ ap (λ (x : KeyAnswer). bufferAfter x (keyOf L s) before) one-answer ∙ sym (g .holds)
+  one-buffer = f .holds ∙ ap (λ (x : KeyAnswer). bufferAfter x (keyOf L (replaced s)) before) one-answer ∙ sym (g .holds)
 
 -- the answer by number
 pub one-key-numbers : (κs : _) (a : _) (r q : Numbers) (x y : _) → key-numbers.Post κs a r x → key-numbers.Post κs a q y → r ≡ q

@@ -12,17 +12,24 @@ use Rattle.refusal.specs.declared.Bad.{Bad}
 use Rattle.refusal.specs.declared.Verdict.{Verdict}
 use Rattle.refusal.specs.declared.Verdict.the-variants as verdict
 use Rattle.refusal.specs.Order.{refusedOr}
-use Rattle.token.specs.Lists.{Lists}
+use Rattle.token.specs.Lists.{Lists, lent}
 use Rattle.lexer.specs.Answers.{tokenVerdict}
+use Rattle.lexer.specs.Checked.{Checked}
 use Rattle.lexer.proofs.Checks.{fine-checked}
+use Rattle.line_ends.specs.declared.Found.{Found}
+use Rattle.line_ends.specs.declared.Found.the-variants.{At, Nowhere}
+use Rattle.line_ends.specs.LineEnds.{replaced, doubleReturn}
+use Rattle.line_ends.specs.Found.{foundAt}
 use Rattle.canon.specs.Keyable.{brokenAt}
 use Rattle.canon.specs.Key.{keyOf}
+use Rattle.canon.proofs.Sounds.{false-true}
+use Rattle.engine.specs.declared.Need.{Need}
+use Rattle.engine.specs.declared.Need.the-variants.{Bytes, Mending}
+use Rattle.engine.specs.Wholes as whole
+use Rattle.engine.specs.Wholes.{needFor, needOf}
 use Rattle.key.specs.declared.KeyAnswer.{KeyAnswer}
-use Rattle.key.specs.declared.KeyAnswer.the-variants.{Keyed, Broken, Room, Refused}
-use Rattle.key.specs.declared.Need.{Need}
-use Rattle.key.specs.declared.Need.the-variants.{Bytes, Mending}
-use Rattle.key.specs.Needs.{needFor, needOf, Writing, Written}
-use Rattle.key.specs.Answers.{roomed, unbroken, keyAnswer, Keying, keyNumbers}
+use Rattle.key.specs.declared.KeyAnswer.the-variants.{Keyed, DoubleReturn, Broken, Room, Refused}
+use Rattle.key.specs.Answers.{roomed, unbroken, single, keyAnswer, Keying, keyNumbers}
 
 -- BY NUMBER, at a case
 pub numbers-at : {x y : KeyAnswer} → x ≡ y → keyNumbers y ≡ keyNumbers x
@@ -45,40 +52,94 @@ abbrev bytesIn : Need → ℕ
 bytesIn (Bytes n) = n
 bytesIn (Mending start) = 0
 
-bytes-needed : (p : Place) (n m : ℕ) → needFor p n ≡ Bytes m → n ≡ m
+bytes-needed : (p : Place) (n m : ℕ) → needFor p n ≡ Bytes m → (p ≡ nowhere) × (n ≡ m)
 bytes-needed (at start) n m e = absurd (true≢false (sym (ap isBytes e)))
-bytes-needed nowhere n m e = ap bytesIn e
+bytes-needed nowhere n m e = (refl, ap bytesIn e)
+
+-- by where CR CR LF is found
+abbrev isAt : Found → Bool
+isAt (At k) = true
+isAt Nowhere = false
+
+abbrev placeIn : Found → ℕ
+placeIn (At k) = k
+placeIn Nowhere = 0
+
+found-at : (p : Place) (k : ℕ) → foundAt p ≡ At k → p ≡ at k
+found-at (at j) k e = ap at (ap placeIn e)
+found-at nowhere k e = absurd (true≢false (sym (ap isAt e)))
+
+found-nowhere : (p : Place) → foundAt p ≡ Nowhere → p ≡ nowhere
+found-nowhere (at j) e = absurd (true≢false (ap isAt e))
+found-nowhere nowhere e = refl
 
 -- THE CASES
-module _ (limit : ℕ) (s : List ℕ) (L : Lists) (before : List ℕ) {v : Verdict} (e : v ≡ tokenVerdict limit s L) where
-  pub refused-in : {bad : Bad} → v ≡ verdict.Refused bad → Keying limit s L before before (Refused bad)
-  refused-in k = record { answer = ap (λ (u : Verdict). refusedOr Refused u (unbroken (brokenAt L s) (roomed (length (keyOf L s)) (length before)))) (sym k ∙ e); holds = refl }
+module _ (limit : ℕ) (s a b e before : List ℕ) {v : Verdict} (d : v ≡ tokenVerdict limit s (lent a b e)) where
+  abbrev key : List ℕ
+  key = keyOf (lent a b e) (replaced s)
 
-  module _ (k : v ≡ verdict.Fine) where
-    module _ {need : Need} (d : need ≡ needOf L s) where
-      fine : answered need (length before) ≡ keyAnswer limit s L (length before)
+  abbrev broken : Place
+  broken = brokenAt (lent a b e) (replaced s)
+
+  abbrev later : KeyAnswer
+  later = unbroken broken (roomed (length key) (length before))
+
+  pub refused-in : {bad : Bad} → v ≡ verdict.Refused bad → Keying limit s (lent a b e) before before (Refused bad)
+  refused-in k = record { answer = ap (λ (u : Verdict). refusedOr Refused u (single (doubleReturn s) later)) (sym k ∙ d); holds = refl }
+
+  module _ (k : v ≡ verdict.Fine) {f : Found} (g : f ≡ foundAt (doubleReturn s)) where
+    checked : Checked s (lent a b e)
+    checked = fine-checked limit s (lent a b e) d k
+
+    past : single (doubleReturn s) later ≡ keyAnswer limit s (lent a b e) (length before)
+    past = ap (λ (u : Verdict). refusedOr Refused u (single (doubleReturn s) later)) (sym k ∙ d)
+
+    pub doubled-in : {place : ℕ} → f ≡ At place → Keying limit s (lent a b e) before before (DoubleReturn place)
+    doubled-in {place} h = record { answer = ap (λ (p : Place). single p later) (sym (found-at (doubleReturn s) place (sym g ∙ h))) ∙ past; holds = refl }
+
+    pub measure-ready : whole.Keying false s a b e before
+    measure-ready =
+        record { fits = checked .fits; well = checked .well; starts-good = checked .starts; continues-good = checked .continues; emoji-good = checked .emoji; whole = λ t. false-true t; room = λ t. false-true t }
+
+    module _ (h : f ≡ Nowhere) {mid : List ℕ} {need : Need} (w : whole.Keyed false (lent a b e) s before mid need) where
+      fine : answered need (length before) ≡ keyAnswer limit s (lent a b e) (length before)
       fine =
-          ap (λ (x : Need). answered x (length before)) d ∙ by-need (brokenAt L s) (length (keyOf L s)) (length before)
-          ∙ ap (λ (u : Verdict). refusedOr Refused u (unbroken (brokenAt L s) (roomed (length (keyOf L s)) (length before)))) (sym k ∙ e)
+          ap (λ (x : Need). answered x (length before)) (w .need)
+          ∙ by-need broken (length key) (length before)
+          ∙ ap (λ (p : Place). single p later) (sym (found-nowhere (doubleReturn s) (sym g ∙ h)))
+          ∙ past
 
-      pub broken-in : {start : ℕ} → need ≡ Mending start → Keying limit s L before before (Broken start)
-      broken-in q = record { answer = sym (ap (λ (x : Need). answered x (length before)) q) ∙ fine; holds = refl }
+      pub broken-in : {start : ℕ} → need ≡ Mending start → Keying limit s (lent a b e) before mid (Broken start)
+      broken-in q = record { answer = sym (ap (λ (x : Need). answered x (length before)) q) ∙ fine; holds = w .holds }
 
       module _ {m : ℕ} (q : need ≡ Bytes m) where
-        as-long : length (keyOf L s) ≡ m
-        as-long = bytes-needed (brokenAt L s) (length (keyOf L s)) m (sym d ∙ q)
+        needed : (broken ≡ nowhere) × (length key ≡ m)
+        needed = bytes-needed broken (length key) m (sym (w .need) ∙ q)
 
-        roomy : roomed m (length before) ≡ keyAnswer limit s L (length before)
+        same : length mid ≡ length before
+        same = ap length (w .holds)
+
+        roomy : roomed m (length before) ≡ keyAnswer limit s (lent a b e) (length before)
         roomy = sym (ap (λ (x : Need). answered x (length before)) q) ∙ fine
 
-        pub room-in : length before < m → Keying limit s L before before (Room m)
-        room-in l = record { answer = sym (ap (λ (t : Bool). pick t (Keyed m) (Room m)) (lt-leb m (length before) l)) ∙ roomy; holds = refl }
+        pub room-in : length mid < m → Keying limit s (lent a b e) before mid (Room m)
+        room-in l = record { answer = sym (ap (λ (t : Bool). pick t (Keyed m) (Room m)) (lt-leb m (length before) (omega (arith, same, l)))) ∙ roomy; holds = w .holds }
 
-        pub write-ready : m ≤ length before → Writing L s before
-        write-ready l = record { checked = fine-checked limit s L e k; room = omega (arith, as-long) }
+        pub write-ready : m ≤ length mid → whole.Keying true s a b e mid
+        write-ready l =
+            record {
+              fits = checked .fits;
+              well = checked .well;
+              starts-good = checked .starts;
+              continues-good = checked .continues;
+              emoji-good = checked .emoji;
+              whole = λ t. needed .0;
+              room = λ t. omega (arith, needed .1, l);
+            }
 
-        pub keyed-in : {after : List ℕ} → m ≤ length before → Written L s before after → Keying limit s L before after (Keyed m)
-        keyed-in l w = record {
-          answer = sym (ap (λ (t : Bool). pick t (Keyed m) (Room m)) (le-leb m (length before) l)) ∙ roomy;
-          holds = w ∙ ap (λ (j : ℕ). keyOf L s ++ drop j before) as-long;
-        }
+        pub keyed-in : {after : List ℕ} {again : Need} → m ≤ length mid → whole.Keyed true (lent a b e) s mid after again → Keying limit s (lent a b e) before after (Keyed m)
+        keyed-in l x =
+            record {
+              answer = sym (ap (λ (t : Bool). pick t (Keyed m) (Room m)) (le-leb m (length before) (omega (arith, same, l)))) ∙ roomy;
+              holds = x .holds ∙ ap (λ (o : List ℕ). key ++ drop (length key) o) (w .holds) ∙ ap (λ (j : ℕ). key ++ drop j before) (needed .1);
+            }

@@ -15,43 +15,48 @@ use Rattle.refusal.specs.declared.Verdict.the-variants as verdict
 use Rattle.refusal.specs.Order.{refusedOr}
 use Rattle.token.specs.Lists.{Lists}
 use Rattle.lexer.specs.Answers.{tokenVerdict}
+use Rattle.line_ends.specs.LineEnds.{replaced, doubleReturn}
 use Rattle.canon.specs.Keyable.{brokenAt, Keyable}
 use Rattle.canon.specs.Key.{keyOf}
 use Rattle.key.specs.declared.KeyAnswer.{KeyAnswer}
-use Rattle.key.specs.declared.KeyAnswer.the-variants.{Keyed, Broken, Room, Refused}
-use Rattle.key.specs.Answers.{unbroken, keyAnswer, Keying}
+use Rattle.key.specs.declared.KeyAnswer.the-variants.{Keyed, DoubleReturn, Broken, Room, Refused}
+use Rattle.key.specs.Answers.{unbroken, single, keyAnswer, Keying}
 
 -- what an answer of success says of the text, the lists and the room
 pub record Done (limit : ℕ) (s : List ℕ) (L : Lists) (room n : ℕ) : Type 0 where
   pub fine : tokenVerdict limit s L ≡ verdict.Fine
-  pub keyable : Keyable L s
-  pub long : n ≡ length (keyOf L s)
+  pub single : doubleReturn s ≡ nowhere
+  pub keyable : Keyable L (replaced s)
+  pub long : n ≡ length (keyOf L (replaced s))
   pub fits : n ≤ room
 
 abbrev isKeyed : KeyAnswer → Bool
 isKeyed (Keyed n) = true
+isKeyed (DoubleReturn place) = false
 isKeyed (Broken start) = false
 isKeyed (Room n) = false
 isKeyed (Refused bad) = false
 
 abbrev bytesIn : KeyAnswer → ℕ
 bytesIn (Keyed n) = n
+bytesIn (DoubleReturn place) = 0
 bytesIn (Broken start) = 0
 bytesIn (Room n) = 0
 bytesIn (Refused bad) = 0
 
 module _ {limit : ℕ} {s : List ℕ} {L : Lists} {room n : ℕ} where
-  by-cases : (v : Verdict) (p : Place) (t : Bool) → tokenVerdict limit s L ≡ v → brokenAt L s ≡ p → leb (length (keyOf L s)) room ≡ t
-      → Keyed n ≡ refusedOr Refused v (unbroken p (pick t (Keyed (length (keyOf L s))) (Room (length (keyOf L s))))) → Done limit s L room n
-  by-cases verdict.Fine nowhere true f p q e =
-      let k : n ≡ length (keyOf L s) = ap bytesIn e in
-      record { fine = f; keyable = p; long = k; fits = omega (arith, k, leb-true (length (keyOf L s)) room q) }
-  by-cases verdict.Fine nowhere false f p q e = absurd (true≢false (ap isKeyed e))
-  by-cases verdict.Fine (at start) t f p q e = absurd (true≢false (ap isKeyed e))
-  by-cases (verdict.Refused b) p t f g q e = absurd (true≢false (ap isKeyed e))
+  by-cases : (v : Verdict) (d p : Place) (t : Bool) → tokenVerdict limit s L ≡ v → doubleReturn s ≡ d → brokenAt L (replaced s) ≡ p → leb (length (keyOf L (replaced s))) room ≡ t
+      → Keyed n ≡ refusedOr Refused v (single d (unbroken p (pick t (Keyed (length (keyOf L (replaced s)))) (Room (length (keyOf L (replaced s))))))) → Done limit s L room n
+  by-cases verdict.Fine nowhere nowhere true f d p q e =
+      let k : n ≡ length (keyOf L (replaced s)) = ap bytesIn e in
+      record { fine = f; single = d; keyable = p; long = k; fits = omega (arith, k, leb-true (length (keyOf L (replaced s))) room q) }
+  by-cases verdict.Fine nowhere nowhere false f d p q e = absurd (true≢false (ap isKeyed e))
+  by-cases verdict.Fine nowhere (at start) t f d p q e = absurd (true≢false (ap isKeyed e))
+  by-cases verdict.Fine (at place) p t f d g q e = absurd (true≢false (ap isKeyed e))
+  by-cases (verdict.Refused b) z p t f d g q e = absurd (true≢false (ap isKeyed e))
 
   pub done : Keyed n ≡ keyAnswer limit s L room → Done limit s L room n
-  done = by-cases (tokenVerdict limit s L) (brokenAt L s) (leb (length (keyOf L s)) room) refl refl refl
+  done = by-cases (tokenVerdict limit s L) (doubleReturn s) (brokenAt L (replaced s)) (leb (length (keyOf L (replaced s))) room) refl refl refl refl
 
 -- A KEY THAT WAS WRITTEN fits into the buffer, and its bytes are a part of it
 module _ {limit : ℕ} {s : List ℕ} {L : Lists} {before after : List ℕ} {r : KeyAnswer} {n : ℕ} (k : Keying limit s L before after r) (e : r ≡ Keyed n) (kept : length after ≡ length before) where

@@ -1,11 +1,8 @@
-mod Turns
-mod Measures
-mod Layings
-mod Calls
-pub mod Answers
+pub mod Calls
 pub mod Fits
+pub mod Answers
 pub mod Valids
 pub mod Canonical
 pub mod Agreed
-pub mod Limit
 pub mod Alike
+pub mod Limit

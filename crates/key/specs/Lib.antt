@@ -1,4 +1,2 @@
-pub mod Pieces
-pub mod Needs
 pub mod Answers
 pub mod Valid

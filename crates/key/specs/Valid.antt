@@ -1,10 +1,13 @@
--- What the key call lets through, in the words of document 01. `limit` is the most pairs of a list.
+-- What the key call lets through, in the words of documents 01 and 02 (W3). `limit` is the most pairs of a list.
 use Prim.Native.Nat.{ℕ, _/_, _≤_}
+use mathlib.Core.Path.{_≡_}
 use mathlib.Core.List.{List}
 use lib.ListN.{length}
 use Rattle.text.specs.Chars.{WellFormed}
 use Rattle.ranges.specs.Rules.{Good}
+use Rattle.eaters.specs.Find.{nowhere}
 use Rattle.token.specs.Lists.{Lists}
+use Rattle.line_ends.specs.LineEnds.{replaced, doubleReturn}
 use Rattle.canon.specs.Keyable.{Keyable}
 use Rattle.canon.specs.Key.{keyOf}
 
@@ -21,8 +24,9 @@ pub record Valid (limit : ℕ) (s : List ℕ) (L : Lists) : Type 0 where
   pub continues : Allowed limit (L .continues)
   pub emoji : Allowed limit (L .emoji)
 
--- besides, no token is broken, and the buffer has room for the key
+-- besides, CR CR LF stands nowhere, no token of the replaced text is broken, and the buffer has room for its key
 pub record HasKey (limit : ℕ) (s : List ℕ) (L : Lists) (before : List ℕ) : Type 0 where
   pub valid : Valid limit s L
-  pub whole : Keyable L s
-  pub room : length (keyOf L s) ≤ length before
+  pub single : doubleReturn s ≡ nowhere
+  pub whole : Keyable L (replaced s)
+  pub room : length (keyOf L (replaced s)) ≤ length before

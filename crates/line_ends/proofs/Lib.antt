@@ -1,3 +1,4 @@
 pub mod Replaced
 pub mod Coded
 pub mod Places
+pub mod Twins
