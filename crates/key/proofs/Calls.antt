@@ -15,7 +15,6 @@ use Rattle.refusal.specs.Order.{refusedOr}
 use Rattle.token.specs.Lists.{Lists, lent}
 use Rattle.lexer.specs.Answers.{tokenVerdict}
 use Rattle.lexer.specs.Checked.{Checked}
-use Rattle.lexer.proofs.Checks.{fine-checked}
 use Rattle.line_ends.specs.declared.Found.{Found}
 use Rattle.line_ends.specs.declared.Found.the-variants.{At, Nowhere}
 use Rattle.line_ends.specs.LineEnds.{replaced, doubleReturn}
@@ -29,7 +28,7 @@ use Rattle.engine.specs.Wholes as whole
 use Rattle.engine.specs.Wholes.{needFor, needOf}
 use Rattle.key.specs.declared.KeyAnswer.{KeyAnswer}
 use Rattle.key.specs.declared.KeyAnswer.the-variants.{Keyed, DoubleReturn, Broken, Room, Refused}
-use Rattle.key.specs.Answers.{roomed, unbroken, single, keyAnswer, Keying, keyNumbers}
+use Rattle.key.specs.Answers.{roomed, unbroken, single, checkedAnswer, keyAnswer, CheckedKeying, Keying, keyNumbers}
 
 -- BY NUMBER, at a case
 pub numbers-at : {x y : KeyAnswer} → x ≡ y → keyNumbers y ≡ keyNumbers x
@@ -73,73 +72,69 @@ found-nowhere : (p : Place) → foundAt p ≡ Nowhere → p ≡ nowhere
 found-nowhere (at j) e = absurd (true≢false (ap isAt e))
 found-nowhere nowhere e = refl
 
--- THE CASES
-module _ (limit : ℕ) (s a b e before : List ℕ) {v : Verdict} (d : v ≡ tokenVerdict limit s (lent a b e)) where
+-- AFTER THE CHECKS
+module _ (s a b e before : List ℕ) (checked : Checked s (lent a b e)) where
   abbrev key : List ℕ
   key = keyOf (lent a b e) (replaced s)
 
   abbrev broken : Place
   broken = brokenAt (lent a b e) (replaced s)
 
-  abbrev later : KeyAnswer
-  later = unbroken broken (roomed (length key) (length before))
+  pub measure-ready : whole.Keying false s a b e before
+  measure-ready =
+      record { fits = checked .fits; well = checked .well; starts-good = checked .starts; continues-good = checked .continues; emoji-good = checked .emoji; whole = λ t. false-true t; room = λ t. false-true t }
 
-  pub refused-in : {bad : Bad} → v ≡ verdict.Refused bad → Keying limit s (lent a b e) before before (Refused bad)
-  refused-in k = record { answer = ap (λ (u : Verdict). refusedOr Refused u (single (doubleReturn s) later)) (sym k ∙ d); holds = refl }
+  module _ {mid : List ℕ} {need : Need} (w : whole.Keyed false (lent a b e) s before mid need) where
+    fine : answered need (length before) ≡ checkedAnswer s (lent a b e) (length before)
+    fine = ap (λ (x : Need). answered x (length before)) (w .need) ∙ by-need broken (length key) (length before)
+
+    pub broken-in : {start : ℕ} → need ≡ Mending start → CheckedKeying s (lent a b e) before mid (Broken start)
+    broken-in q = record { answer = sym (ap (λ (x : Need). answered x (length before)) q) ∙ fine; holds = w .holds }
+
+    module _ {m : ℕ} (q : need ≡ Bytes m) where
+      needed : (broken ≡ nowhere) × (length key ≡ m)
+      needed = bytes-needed broken (length key) m (sym (w .need) ∙ q)
+
+      same : length mid ≡ length before
+      same = ap length (w .holds)
+
+      roomy : roomed m (length before) ≡ checkedAnswer s (lent a b e) (length before)
+      roomy = sym (ap (λ (x : Need). answered x (length before)) q) ∙ fine
+
+      pub room-in : length mid < m → CheckedKeying s (lent a b e) before mid (Room m)
+      room-in l = record { answer = sym (ap (λ (t : Bool). pick t (Keyed m) (Room m)) (lt-leb m (length before) (omega (arith, same, l)))) ∙ roomy; holds = w .holds }
+
+      pub write-ready : m ≤ length mid → whole.Keying true s a b e mid
+      write-ready l =
+          record {
+            fits = checked .fits;
+            well = checked .well;
+            starts-good = checked .starts;
+            continues-good = checked .continues;
+            emoji-good = checked .emoji;
+            whole = λ t. needed .0;
+            room = λ t. omega (arith, needed .1, l);
+          }
+
+      pub keyed-in : {after : List ℕ} {again : Need} → m ≤ length mid → whole.Keyed true (lent a b e) s mid after again → CheckedKeying s (lent a b e) before after (Keyed m)
+      keyed-in l x =
+          record {
+            answer = sym (ap (λ (t : Bool). pick t (Keyed m) (Room m)) (le-leb m (length before) (omega (arith, same, l)))) ∙ roomy;
+            holds = x .holds ∙ ap (λ (o : List ℕ). key ++ drop (length key) o) (w .holds) ∙ ap (λ (j : ℕ). key ++ drop j before) (needed .1);
+          }
+
+-- THE CHECKS
+module _ (limit : ℕ) (s : List ℕ) (L : Lists) (before : List ℕ) {v : Verdict} (d : v ≡ tokenVerdict limit s L) where
+  pub refused-in : {bad : Bad} → v ≡ verdict.Refused bad → Keying limit s L before before (Refused bad)
+  refused-in k = record { answer = ap (λ (u : Verdict). refusedOr Refused u (single (doubleReturn s) (checkedAnswer s L (length before)))) (sym k ∙ d); holds = refl }
 
   module _ (k : v ≡ verdict.Fine) {f : Found} (g : f ≡ foundAt (doubleReturn s)) where
-    checked : Checked s (lent a b e)
-    checked = fine-checked limit s (lent a b e) d k
+    past : single (doubleReturn s) (checkedAnswer s L (length before)) ≡ keyAnswer limit s L (length before)
+    past = ap (λ (u : Verdict). refusedOr Refused u (single (doubleReturn s) (checkedAnswer s L (length before)))) (sym k ∙ d)
 
-    past : single (doubleReturn s) later ≡ keyAnswer limit s (lent a b e) (length before)
-    past = ap (λ (u : Verdict). refusedOr Refused u (single (doubleReturn s) later)) (sym k ∙ d)
+    pub doubled-in : {place : ℕ} → f ≡ At place → Keying limit s L before before (DoubleReturn place)
+    doubled-in {place} h = record { answer = ap (λ (p : Place). single p (checkedAnswer s L (length before))) (sym (found-at (doubleReturn s) place (sym g ∙ h))) ∙ past; holds = refl }
 
-    pub doubled-in : {place : ℕ} → f ≡ At place → Keying limit s (lent a b e) before before (DoubleReturn place)
-    doubled-in {place} h = record { answer = ap (λ (p : Place). single p later) (sym (found-at (doubleReturn s) place (sym g ∙ h))) ∙ past; holds = refl }
-
-    pub measure-ready : whole.Keying false s a b e before
-    measure-ready =
-        record { fits = checked .fits; well = checked .well; starts-good = checked .starts; continues-good = checked .continues; emoji-good = checked .emoji; whole = λ t. false-true t; room = λ t. false-true t }
-
-    module _ (h : f ≡ Nowhere) {mid : List ℕ} {need : Need} (w : whole.Keyed false (lent a b e) s before mid need) where
-      fine : answered need (length before) ≡ keyAnswer limit s (lent a b e) (length before)
-      fine =
-          ap (λ (x : Need). answered x (length before)) (w .need)
-          ∙ by-need broken (length key) (length before)
-          ∙ ap (λ (p : Place). single p later) (sym (found-nowhere (doubleReturn s) (sym g ∙ h)))
-          ∙ past
-
-      pub broken-in : {start : ℕ} → need ≡ Mending start → Keying limit s (lent a b e) before mid (Broken start)
-      broken-in q = record { answer = sym (ap (λ (x : Need). answered x (length before)) q) ∙ fine; holds = w .holds }
-
-      module _ {m : ℕ} (q : need ≡ Bytes m) where
-        needed : (broken ≡ nowhere) × (length key ≡ m)
-        needed = bytes-needed broken (length key) m (sym (w .need) ∙ q)
-
-        same : length mid ≡ length before
-        same = ap length (w .holds)
-
-        roomy : roomed m (length before) ≡ keyAnswer limit s (lent a b e) (length before)
-        roomy = sym (ap (λ (x : Need). answered x (length before)) q) ∙ fine
-
-        pub room-in : length mid < m → Keying limit s (lent a b e) before mid (Room m)
-        room-in l = record { answer = sym (ap (λ (t : Bool). pick t (Keyed m) (Room m)) (lt-leb m (length before) (omega (arith, same, l)))) ∙ roomy; holds = w .holds }
-
-        pub write-ready : m ≤ length mid → whole.Keying true s a b e mid
-        write-ready l =
-            record {
-              fits = checked .fits;
-              well = checked .well;
-              starts-good = checked .starts;
-              continues-good = checked .continues;
-              emoji-good = checked .emoji;
-              whole = λ t. needed .0;
-              room = λ t. omega (arith, needed .1, l);
-            }
-
-        pub keyed-in : {after : List ℕ} {again : Need} → m ≤ length mid → whole.Keyed true (lent a b e) s mid after again → Keying limit s (lent a b e) before after (Keyed m)
-        keyed-in l x =
-            record {
-              answer = sym (ap (λ (t : Bool). pick t (Keyed m) (Room m)) (le-leb m (length before) (omega (arith, same, l)))) ∙ roomy;
-              holds = x .holds ∙ ap (λ (o : List ℕ). key ++ drop (length key) o) (w .holds) ∙ ap (λ (j : ℕ). key ++ drop j before) (needed .1);
-            }
+    pub checked-in : {after : List ℕ} {r : KeyAnswer} → f ≡ Nowhere → CheckedKeying s L before after r → Keying limit s L before after r
+    checked-in h w =
+        record { answer = w .answer ∙ ap (λ (p : Place). single p (checkedAnswer s L (length before))) (sym (found-nowhere (doubleReturn s) (sym g ∙ h))) ∙ past; holds = w .holds }

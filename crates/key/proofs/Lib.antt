@@ -3,6 +3,7 @@ pub mod Fits
 pub mod Answers
 pub mod Valids
 pub mod Canonical
+pub mod LineEnds
 pub mod Agreed
 pub mod Alike
 pub mod Limit

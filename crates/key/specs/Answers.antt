@@ -32,13 +32,13 @@ abbrev pub single : Place → KeyAnswer → KeyAnswer
 single (at place) answer = DoubleReturn place
 single nowhere answer = answer
 
+-- after the checks: 6, then 7
+abbrev pub checkedAnswer : (s : List ℕ) → Lists → (room : ℕ) → KeyAnswer
+checkedAnswer s L room = unbroken (brokenAt L (replaced s)) (roomed (length (keyOf L (replaced s))) room)
+
 -- THE ANSWER: 1, 3, 2 as the one-token call has them, then 10, then 6, then 7
 abbrev pub keyAnswer : (limit : ℕ) (s : List ℕ) → Lists → (room : ℕ) → KeyAnswer
-keyAnswer limit s L room =
-    refusedOr Refused (tokenVerdict limit s L)
-    (single (doubleReturn s)
-    (unbroken (brokenAt L (replaced s))
-    (roomed (length (keyOf L (replaced s))) room)))
+keyAnswer limit s L room = refusedOr Refused (tokenVerdict limit s L) (single (doubleReturn s) (checkedAnswer s L room))
 
 -- THE CONTENTS: on success the key, and past it what was there; a refusal changes nothing
 abbrev pub bufferAfter : KeyAnswer → (key before : List ℕ) → List ℕ
@@ -47,6 +47,11 @@ bufferAfter (DoubleReturn place) key before = before
 bufferAfter (Broken start) key before = before
 bufferAfter (Room n) key before = before
 bufferAfter (Refused bad) key before = before
+
+-- the promise after the checks: the answer r, and the buffer from before to after
+pub record CheckedKeying (s : List ℕ) (L : Lists) (before after : List ℕ) (r : KeyAnswer) : Type 0 where
+  pub answer : r ≡ checkedAnswer s L (length before)
+  pub holds : after ≡ bufferAfter r (keyOf L (replaced s)) before
 
 -- THE PROMISE of the key call: the answer r, and the buffer from before to after
 pub record Keying (limit : ℕ) (s : List ℕ) (L : Lists) (before after : List ℕ) (r : KeyAnswer) : Type 0 where

@@ -2,7 +2,8 @@
 // refusal is found, and the key is measured, before the first byte is written; each pass reads each byte of the text a fixed number of times.
 ghost use mathlib.Core.Path.{_≡_};
 ghost use Rattle.token.specs.Lists.{lent};
-ghost use Rattle.key.specs.Answers.{keyNumbers, Keying};
+ghost use Rattle.lexer.specs.Checked.{Checked};
+ghost use Rattle.key.specs.Answers.{keyNumbers, CheckedKeying, Keying};
 use engine::Need;
 use line_ends::Found;
 use refusal::Bad;
@@ -48,6 +49,29 @@ pub fn key_numbers(answer: KeyAnswer) -> Numbers
     }
 }
 
+// The key of a text that was checked, and in which CR CR LF stands nowhere: refusals 6 and 7 in this order, or the key.
+fn checked_key(
+    text: &[u8],
+    starts: &[u32],
+    continues: &[u32],
+    emoji: &[u32],
+    out: &mut [u8],
+) -> KeyAnswer
+    requires { ⌜ Checked (now text) (lent (now starts) (now continues) (now emoji)) ⌝ }
+    ensures { λ r. ⌜ CheckedKeying (now (text .entry)) (lent (now (starts .entry)) (now (continues .entry)) (now (emoji .entry))) (now (out .entry)) (now (out .exit)) r ⌝ }
+{
+    match engine::whole(false, text, starts, continues, emoji, out) {
+        Need::Mending(at) => KeyAnswer::Broken(at),
+        Need::Bytes(bytes) => {
+            if out.len() < bytes {
+                return KeyAnswer::Room(bytes);
+            }
+            engine::whole(true, text, starts, continues, emoji, out);
+            KeyAnswer::Keyed(bytes)
+        }
+    }
+}
+
 // PUBLIC. The key of a text, in the first bytes of a lent buffer. Refusals 1, 3, 2, 10, 6 and 7 in this order; none of them writes a byte.
 pub fn key(
     text: &[u8],
@@ -64,14 +88,5 @@ pub fn key(
     if let Found::At(at) = line_ends::double_return(text) {
         return KeyAnswer::DoubleReturn(at);
     }
-    match engine::whole(false, text, starts, continues, emoji, out) {
-        Need::Mending(at) => KeyAnswer::Broken(at),
-        Need::Bytes(bytes) => {
-            if out.len() < bytes {
-                return KeyAnswer::Room(bytes);
-            }
-            engine::whole(true, text, starts, continues, emoji, out);
-            KeyAnswer::Keyed(bytes)
-        }
-    }
+    checked_key(text, starts, continues, emoji, out)
 }

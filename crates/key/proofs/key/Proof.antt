@@ -1,7 +1,7 @@
--- `key::key` meets its contract. What the verdict lets through, a broken token, and the room (Calls).
-use Rattle.lexer.proofs.Checks.{fine-checked}
-use Rattle.key.proofs.Calls.{refused-in, broken-in, room-in, write-ready, keyed-in}
+-- `key::key` meets its contract. The verdict, CR CR LF, and then the key (Calls).
 use borrow.Author.Needs.{needs}
+use Rattle.lexer.proofs.Checks.{fine-checked}
+use Rattle.key.proofs.Calls.{refused-in, doubled-in, checked-in}
 use Rattle.key.proofs.key.Statement.{statement}
 use Rattle.key.proofs.key.Tie as tie
 
@@ -17,29 +17,26 @@ returns c = search refused-in
 enum-told : tie.Need-enum-told
 enum-told c = search needs
 
-measure-requires : tie.Need-measure-requires
-measure-requires c κs = search fine-checked
+double-return-requires : tie.Need-double-return-requires
+double-return-requires c κs = search needs
 
 enum-known-at : tie.Need-enum-known-at
 enum-known-at c = search needs
 
-enum-known-bytes : tie.Need-enum-known-bytes
-enum-known-bytes c = search needs
-
 returns-2 : tie.Need-returns-2
-returns-2 c = search room-in
+returns-2 c = search doubled-in
 
-write-requires : tie.Need-write-requires
-write-requires c κs = search write-ready
+enum-told-2 : tie.Need-enum-told-2
+enum-told-2 c = search needs
 
-returns-3 : tie.Need-returns-3
-returns-3 c = search broken-in
+checked-key-requires : tie.Need-checked-key-requires
+checked-key-requires c κs = search fine-checked
 
 same-length : tie.Need-same-length
 same-length c = search needs
 
-returns-4 : tie.Need-returns-4
-returns-4 c = search keyed-in
+returns-3 : tie.Need-returns-3
+returns-3 c = search checked-in
 
 pub key-spec : {M : Type 1} → statement M
 key-spec =
@@ -49,11 +46,10 @@ key-spec =
     enum-known-bad
     returns
     enum-told
-    measure-requires
+    double-return-requires
     enum-known-at
-    enum-known-bytes
     returns-2
-    write-requires
-    returns-3
+    enum-told-2
+    checked-key-requires
     same-length
-    returns-4)
+    returns-3)

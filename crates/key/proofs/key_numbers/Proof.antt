@@ -1,6 +1,6 @@
 -- `key::key_numbers` meets its contract. By its cases (Calls).
-use Rattle.key.proofs.Calls.{numbers-at}
 use borrow.Author.Needs.{needs}
+use Rattle.key.proofs.Calls.{numbers-at}
 use Rattle.key.proofs.key_numbers.Statement.{statement}
 use Rattle.key.proofs.key_numbers.Tie as tie
 
@@ -16,6 +16,9 @@ enum-known-answer-3 c = search needs
 enum-known-answer-4 : tie.Need-enum-known-answer-4
 enum-known-answer-4 c = search needs
 
+enum-known-answer-5 : tie.Need-enum-known-answer-5
+enum-known-answer-5 c = search needs
+
 bad-numbers-requires : tie.Need-bad-numbers-requires
 bad-numbers-requires c κs = search needs
 
@@ -29,7 +32,10 @@ returns-3 : tie.Need-returns-3
 returns-3 c = search numbers-at
 
 returns-4 : tie.Need-returns-4
-returns-4 c = search needs
+returns-4 c = search numbers-at
+
+returns-5 : tie.Need-returns-5
+returns-5 c = search needs
 
 pub key-numbers-spec : {M : Type 1} → statement M
 key-numbers-spec =
@@ -39,8 +45,10 @@ key-numbers-spec =
     enum-known-answer-2
     enum-known-answer-3
     enum-known-answer-4
+    enum-known-answer-5
     bad-numbers-requires
     returns
     returns-2
     returns-3
-    returns-4)
+    returns-4
+    returns-5)
