@@ -16,6 +16,7 @@ use Rattle.plan.specs.declared.ListAnswer.{ListAnswer}
 use Rattle.plan.specs.Answers.{listNumbers}
 use Rattle.slots.specs.Answers as slots
 use Rattle.slots.specs.Answers.{Slotted}
+use Rattle.line_ends.specs.LineEnds.{replaced}
 use Rattle.canon.specs.Key.{keyOf}
 use Rattle.key.specs.declared.KeyAnswer.{KeyAnswer}
 use Rattle.key.specs.Answers as key
@@ -70,4 +71,4 @@ tokens-out {s = s} {L = L} {on = on} {before = before} p q x =
 pub key-out : {limit : ℕ} {s : List ℕ} {L : Lists} {before after : List ℕ} {r : Answer} {n : Numbers} {a : KeyAnswer}
     → r ≡ answerOf n → n ≡ keyNumbers a → Keying limit s L before after a → KeyOut limit s L before after r
 key-out {s = s} {L = L} {before = before} p q x =
-    record { answer = out-by keyNumbers p q (x .answer); holds = x .holds ∙ ap (λ (y : KeyAnswer). key.bufferAfter y (keyOf L s) before) (x .answer) }
+    record { answer = out-by keyNumbers p q (x .answer); holds = x .holds ∙ ap (λ (y : KeyAnswer). key.bufferAfter y (keyOf L (replaced s)) before) (x .answer) }

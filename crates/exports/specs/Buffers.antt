@@ -9,6 +9,7 @@ use Rattle.token.specs.Tokens.{records}
 use Rattle.plan.specs.Answers.{listAnswer, listNumbers}
 use Rattle.slots.specs.Numbers.{width}
 use Rattle.slots.specs.Answers as slots
+use Rattle.line_ends.specs.LineEnds.{replaced}
 use Rattle.canon.specs.Key.{keyOf}
 use Rattle.key.specs.Answers as key
 use Rattle.key.specs.Answers.{keyAnswer, keyNumbers}
@@ -21,4 +22,4 @@ pub record TokensOut (limit : ℕ) (s : List ℕ) (L : Lists) (on : Bool) (befor
 
 pub record KeyOut (limit : ℕ) (s : List ℕ) (L : Lists) (before after : List ℕ) (r : Answer) : Type 0 where
   pub answer : r ≡ answerOf (keyNumbers (keyAnswer limit s L (length before)))
-  pub holds : after ≡ key.bufferAfter (keyAnswer limit s L (length before)) (keyOf L s) before
+  pub holds : after ≡ key.bufferAfter (keyAnswer limit s L (length before)) (keyOf L (replaced s)) before

@@ -1,4 +1,4 @@
--- Line ends of bytes and of characters: replacing before decoding or after it is the same.
+-- Line ends of bytes and of characters are the same ones: replacing them before decoding or after it gives the same, since a byte of a longer character is no ASCII.
 use Prim.Native.Nat.{ℕ, _≤_, _<_}
 use mathlib.Core.Path.{_≡_, refl, sym, ap, subst, _∙_}
 use mathlib.Core.List.{List, [], _∷_, _++_}
@@ -12,7 +12,7 @@ use Rattle.basics.proofs.Choices.{by-pick}
 use Rattle.text.specs.Chars.{chars, size, encodeOne, encode, Scalars, nil, cons, WellFormed}
 use Rattle.text.proofs.Texts.{scalars, front, encode-chars, chars-encode, well-encode}
 use Rattle.token.specs.Names.{is, 'newline', 'carriage-return'}
-use Rattle.line_ends.specs.LineEnds.{crLf, replaced, noCrLf}
+use Rattle.line_ends.specs.LineEnds.{replaced, noCrLf}
 use Rattle.line_ends.proofs.Replaced.{both}
 
 -- bytes that are no ASCII
@@ -25,6 +25,7 @@ data Spelling (c : ℕ) : List ℕ → Type 0 where
   low : c < 0x80 → Spelling c (c ∷ [])
   high : {b : ℕ} {l : List ℕ} → 0x80 ≤ c → High (b ∷ l) → Spelling c (b ∷ l)
 
+-- how a character is spelled
 spelling : (c : ℕ) → Spelling c (encodeOne c)
 unfolding encodeOne
 spelling c =
@@ -33,6 +34,7 @@ spelling c =
     (λ g. by-pick (λ (l : List ℕ). Spelling c l) (ltb c 0x10000) _ _ (λ t. high (ltb-false c 0x80 f) (more (omega arith) (more (omega arith) (more (omega arith) none))))
     (λ h. high (ltb-false c 0x80 f) (more (omega arith) (more (omega arith) (more (omega arith) (more (omega arith) none)))))))
 
+-- such bytes are no CR and no LF, make no CR LF and are not replaced
 high-is : (b x : ℕ) → 0x80 ≤ b → x < 0x80 → is x b ≡ false
 high-is b x h k = ne-eqb b x (λ e. omega arith)
 
@@ -54,6 +56,7 @@ unfolding encode
 first-encode [] = refl
 first-encode (c ∷ cs) = first-of (spelling c) (encode cs)
 
+-- CR LF IN BYTES is CR LF in characters
 pub encode-free : (cs : List ℕ) → noCrLf (encode cs) ≡ noCrLf cs
 unfolding encode
 encode-free [] = refl
@@ -63,6 +66,7 @@ encode-free (c ∷ cs) = go (spelling c) (encode-free cs)
     go (low h) i = rw (first-encode cs, i)
     go (high h k) i = rw (high-is c 'carriage-return' h (omega arith)) (high-free k (encode cs) ∙ i)
 
+-- replacing bytes is replacing characters
 encode-un : (cs : List ℕ) → replaced (encode cs) ≡ encode (replaced cs)
 unfolding encode
 encode-un [] = refl
@@ -85,10 +89,11 @@ un-scalars (cons {c} {cs} h r) = by-pick (λ (l : List ℕ). Scalars l) (and (is
 pub un-chars : (s : List ℕ) → WellFormed s → chars (replaced s) ≡ replaced (chars s)
 un-chars s w = ap (λ (l : List ℕ). chars (replaced l)) (sym (encode-chars s w)) ∙ ap chars (encode-un (chars s)) ∙ chars-encode (un-scalars (scalars s))
 
+-- the replaced text is well formed
 pub un-well : (s : List ℕ) → WellFormed s → WellFormed (replaced s)
 un-well s w = subst (λ (l : List ℕ). WellFormed l) (sym (encode-un (chars s)) ∙ ap replaced (encode-chars s w)) (well-encode (un-scalars (scalars s)))
 
--- what stands at the front of a text without CR LF has none
+-- the front of a text without CR LF has none
 front-free : (u a : List ℕ) → noCrLf (u ++ a) ≡ true → noCrLf u ≡ true
 front-free [] a h = refl
 front-free (c ∷ []) a h = go (is 'carriage-return' c)
@@ -100,5 +105,6 @@ front-free (c ∷ d ∷ u) a h =
     let p = both (not (and (is 'carriage-return' c) (is 'newline' d))) (noCrLf (d ∷ u ++ a)) h in
     rw (p .0) (front-free (d ∷ u) a (p .1))
 
+-- THE CHARACTERS of a text without CR LF have none
 pub chars-of-free : (s : List ℕ) → noCrLf s ≡ true → noCrLf (chars s) ≡ true
 chars-of-free s h = sym (encode-free (chars s)) ∙ front-free (encode (chars s)) (drop (size (chars s)) s) (ap noCrLf (front s) ∙ h)

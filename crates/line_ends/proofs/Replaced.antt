@@ -1,9 +1,10 @@
--- What is left in a replaced text: nothing changes where there is no CR LF; and without CR CR LF no CR LF is left.
+-- THE REPLACED TEXT (document 02, W3): it is the text itself where that has no CR LF; and it has no CR LF where the text has no CR CR LF, which is what refusal 10 is for.
 use Prim.Native.Nat.{ℕ, _≤_}
 use mathlib.Core.Path.{_≡_, refl, sym, ap, _∙_}
 use mathlib.Core.List.{List, [], _∷_}
 use mathlib.Core.Bool.{Bool, true, false, not}
 use lib.ListN.{length, getD}
+use borrow.Author.Tests.{not-true}
 use native.Mathlib.Omega.{arith}
 use Rattle.basics.specs.Choice.{pick, and, or}
 use Rattle.eaters.specs.Find.{Place, at, nowhere, further, find}
@@ -12,11 +13,12 @@ use Rattle.token.specs.Names.{is, 'newline', 'carriage-return'}
 use Rattle.canon.proofs.Sounds.{false-true}
 use Rattle.line_ends.specs.LineEnds.{crLf, replaced, noCrLf, doubleReturn}
 
+-- both parts of a test that holds
 pub both : (s t : Bool) → and s t ≡ true → (s ≡ true) × (t ≡ true)
 both true t e = (refl, e)
 both false t e = false-true e
 
--- nothing changes where there is no CR LF
+-- A TEXT WITHOUT CR LF stays as it is
 pub same : (s : List ℕ) → noCrLf s ≡ true → replaced s ≡ s
 same [] h = refl
 same (c ∷ cs) h = go (and (is 'carriage-return' c) (is 'newline' (getD cs 0 0))) h (λ e. same cs e)
@@ -25,7 +27,7 @@ same (c ∷ cs) h = go (and (is 'carriage-return' c) (is 'newline' (getD cs 0 0)
     go true h r = false-true h
     go false h r = ap (λ (z : List ℕ). c ∷ z) (r h)
 
--- no CR CR LF, character by character
+-- no CR CR LF, said character by character
 abbrev noDouble : List ℕ → Bool
 noDouble [] = true
 noDouble (c ∷ cs) = and (not (and (is 'carriage-return' c) (and (is 'carriage-return' (getD cs 0 0)) (is 'newline' (getD cs 1 0))))) (noDouble cs)
@@ -48,9 +50,6 @@ left : (s : List ℕ) → noDouble s ≡ true → noCrLf (replaced s) ≡ true
 left [] h = refl
 left (c ∷ cs) h = go (is 'carriage-return' c) refl (is 'newline' (getD cs 0 0)) refl (is 'newline' (getD (replaced cs) 0 0)) refl h (λ e. left cs e)
   where
-    Goal : Bool → Type 0
-    Goal x = noCrLf (pick x (replaced cs) (c ∷ replaced cs)) ≡ true
-
     three : is 'newline' (getD cs 0 0) ≡ false → is 'newline' (getD (replaced cs) 0 0) ≡ true → and (is 'carriage-return' (getD cs 0 0)) (is 'newline' (getD cs 1 0)) ≡ true
     three e f = rw e at (first cs f)
 
@@ -62,26 +61,23 @@ left (c ∷ cs) h = go (is 'carriage-return' c) refl (is 'newline' (getD cs 0 0)
         let q : and (not true) (noDouble cs) ≡ true = rw (three e f) at h in
         false-true q
 
-three : (s : List ℕ) → noCrLf s ≡ true → noDouble s ≡ true
-three [] f = refl
-three (c ∷ cs) f = go (is 'carriage-return' c) refl (is 'carriage-return' (getD cs 0 0)) refl (is 'newline' (getD cs 0 0)) refl f (λ g. three cs g)
+-- a text without CR LF has no CR CR LF
+no-double : (s : List ℕ) → noCrLf s ≡ true → noDouble s ≡ true
+no-double [] f = refl
+no-double (c ∷ cs) f = go (is 'carriage-return' c) refl (is 'carriage-return' (getD cs 0 0)) refl (is 'newline' (getD cs 0 0)) refl f (λ g. no-double cs g)
   where
     go : (a : Bool) → is 'carriage-return' c ≡ a → (b : Bool) → is 'carriage-return' (getD cs 0 0) ≡ b → (d : Bool) → is 'newline' (getD cs 0 0) ≡ d → and (not (and a d)) (noCrLf cs) ≡ true → (noCrLf cs ≡ true → noDouble cs ≡ true) → and (not (and a (and b (is 'newline' (getD cs 1 0))))) (noDouble cs) ≡ true
     go false x b y d z f r = r f
     go true x false y d z f r = r (both (not d) (noCrLf cs) f .1)
     go true x true y d z f r = rw (next cs y (both (not d) (noCrLf cs) f .1)) (r (both (not d) (noCrLf cs) f .1))
       where
-        nots : (s : Bool) → not s ≡ true → s ≡ false
-        nots true e = sym e
-        nots false e = refl
-
         next : (ds : List ℕ) → is 'carriage-return' (getD ds 0 0) ≡ true → noCrLf ds ≡ true → is 'newline' (getD ds 1 0) ≡ false
         next [] y f = false-true y
         next (e ∷ ds) y f =
             let q : and (not (and true (is 'newline' (getD ds 0 0)))) (noCrLf ds) ≡ true = rw y at f in
-            nots (is 'newline' (getD ds 0 0)) (both (not (is 'newline' (getD ds 0 0))) (noCrLf ds) q .0)
+            not-true (is 'newline' (getD ds 0 0)) (both (not (is 'newline' (getD ds 0 0))) (noCrLf ds) q .0)
 
--- where none is found, there is no CR CR LF
+-- where the search for CR CR LF finds none there is none, and the other way round
 further-nowhere : (q : Place) → further q ≡ nowhere → q ≡ nowhere
 further-nowhere nowhere e = refl
 further-nowhere (at k) e = let z : _≡_ {A = ℕ} 0 1 = cc in absurd (omega arith)
@@ -118,15 +114,15 @@ none-double (c ∷ s) e = go (begins ('carriage-return' ∷ 'newline' ∷ []) s)
         last true e = false-true e
         last false e = ap further (i e)
 
--- NO CR LF IS LEFT where there is no CR CR LF: what refusal 10 is for
+-- NO CR LF IS LEFT where there is no CR CR LF
 pub none-left : (s : List ℕ) → doubleReturn s ≡ nowhere → noCrLf (replaced s) ≡ true
 none-left s e = left s (none-found s e)
 
--- where there is no CR LF there is no CR CR LF
+-- A TEXT WITHOUT CR LF is not refused as 10
 pub none-twice : (s : List ℕ) → noCrLf s ≡ true → doubleReturn s ≡ nowhere
-none-twice s f = none-double s (three s f)
+none-twice s f = none-double s (no-double s f)
 
--- a pair becomes its LF
+-- CR LF becomes its LF
 pub replaced-pair : (cs : List ℕ) → replaced ('carriage-return' ∷ 'newline' ∷ cs) ≡ 'newline' ∷ replaced cs
 replaced-pair cs = refl
 

@@ -21,7 +21,7 @@ use Rattle.canon.proofs.Keyed.{items}
 use Rattle.canon.proofs.Written.{key-encode}
 use Rattle.machine.specs.Machine.{Result, ok, bad, put}
 use Rattle.machine.specs.OneShot.{keyOr, itemsOf, oneShot, inBytes, brokenFrom, ofChars}
-use Rattle.machine.proofs.Runs.{mark, keyFrom}
+use Rattle.machine.proofs.ByTokens.{mark, keyFrom}
 
 -- items without a gap at their front
 abbrev noFirst : List Item → List Item
@@ -57,7 +57,7 @@ module _ (L : Lists) where
   abbrev verdict : (r : Bool) (p : ℕ) → List Piece → Result
   verdict r p ts = keyOr (brokenFrom p ts) (keyed r (itemsOf ts))
 
-  meets : (cs : List ℕ) (k p : ℕ) (r : Bool) → keyFrom (plain L) k p r cs ≡ verdict r (p + size (take k cs)) (tokensAfter L false k cs)
+  meets : (cs : List ℕ) (k p : ℕ) (r : Bool) → keyFrom L k p r cs ≡ verdict r (p + size (take k cs)) (tokensAfter L false k cs)
   unfolding tokensAfter advance choose
   meets [] zero p r = ap ok (sym (keyed-none r))
   meets [] (suc k) p r = ap ok (sym (keyed-none r))
@@ -84,15 +84,15 @@ module _ (L : Lists) where
       here : p ≡ p + 0
       here = omega arith
 
-      go : (b v : Bool) → ((x : Bool) → keyFrom (plain L) n (p + width c) x cs ≡ verdict x next ts)
-          → pick (not b) (pick v (mark r (keyFrom (plain L) n (p + width c) true cs)) (put (c ∷ take n cs) (keyFrom (plain L) n (p + width c) false cs))) (bad p)
+      go : (b v : Bool) → ((x : Bool) → keyFrom L n (p + width c) x cs ≡ verdict x next ts)
+          → pick (not b) (pick v (mark r (keyFrom L n (p + width c) true cs)) (put (c ∷ take n cs) (keyFrom L n (p + width c) false cs))) (bad p)
           ≡ keyOr (pick b (at (p + 0)) (brokenFrom next ts)) (keyed r (pick v (gapBefore (itemsOf ts)) (meant (t .kind) (t .text) ∷ itemsOf ts)))
       go true v i = ap bad here
       go false true i = ap (mark r) (i true) ∙ mark-keyed r (itemsOf ts) (brokenFrom next ts)
       go false false i = ap (put (c ∷ take n cs)) (i false) ∙ put-keyed r t (itemsOf ts) (brokenFrom next ts)
 
   -- ON CHARACTERS
-  pub key-is : (cs : List ℕ) → keyFrom (plain L) 0 0 false cs ≡ ofChars (tokens L false cs)
+  pub key-is : (cs : List ℕ) → keyFrom L 0 0 false cs ≡ ofChars (tokens L false cs)
   key-is cs = meets cs 0 0 false ∙ ofChars-is
     where
       ofChars-is : verdict false (0 + 0) (tokens L false cs) ≡ ofChars (tokens L false cs)
