@@ -7,6 +7,7 @@
 #   find_kit, program NAME  the toolchain's folder, and a program, run under its loader
 #   take FILE               a copy of a file: `room`/text
 #   run NAME [FILE]         what a program writes for the copy, or for another file: `room`/answer
+#   in_copy                 the place in the copy of one in the replaced text, of which the key is
 #   doubtful PROGRAM        whether the copy, which has a key, may have another one as rustc reads it; the program writes its tokens, by the same lists
 #   tell_doubt              says so
 #   warn                    says where the copy, whose tokens are the answer, may have others as rustc reads it
@@ -16,6 +17,7 @@
 unset CDPATH
 state=$root/target/lovemudarn
 tab=$(printf '\t')
+cr=$(printf '\r')
 blanks=$(printf ' \t\r\013\014')
 # a byte order mark, and the blanks past ASCII: U+0085, U+200E, U+200F, U+2028, U+2029
 far_blanks=$(printf '\357\273\277 \302\205 \342\200\216 \342\200\217 \342\200\250 \342\200\251')
@@ -366,14 +368,38 @@ doubt() {
     place=${place% *}
 }
 
-# doubtful PROGRAM: whether the copy, whose key is the answer, may have another one as rustc reads it; the answer stays
+# A key is of the replaced text, in which each CR LF is LF. What else is said of the copy, its bytes, its line and its columns, is said of the copy as it is.
+
+# in_copy: `place`, one in the replaced text, becomes the same place in the copy; what it was is left in `counted`
+in_copy() {
+    counted=$place
+    place=$(od -An -v -tu1 "$room/text" | LC_ALL=C awk -v place="$place" '
+        { for (i = 1; i <= NF; i++) b[n++] = $i + 0 }
+        END {
+            for (at = kept = 0; at < n; at++) if (b[at] != 13 || b[at + 1] != 10) if (kept++ == place) break
+            if (at >= n) exit 3
+            print at
+        }') || die 'awk or od failed'
+}
+
+# doubtful PROGRAM: whether the copy, whose key is the answer, may have another one as rustc reads it; the answer stays. That is a matter of the replaced text's tokens, and
+# so it takes the copy's place as long as it is looked at. With a byte behind it the last line has no end, and a CR there stays.
 doubtful() {
     past_ascii || odd_top || return 1
     mv "$room/answer" "$room/key" || full
+    has_cr=
+    if LC_ALL=C grep -q "$cr\$" "$room/text"; then
+        has_cr=yes
+        mv "$room/text" "$room/copy" || full
+        { cat "$room/copy" && printf .; } | LC_ALL=C sed "s/$cr\$//" >"$room/replaced" || full
+        head -c $(($(wc -c <"$room/replaced") - 1)) "$room/replaced" >"$room/text" || full
+    fi
     run "$1"
     doubt 1
+    [ -z "$has_cr" ] || mv "$room/copy" "$room/text" || full
     mv "$room/key" "$room/answer" || full
-    [ -n "$place" ]
+    [ -n "$place" ] || return 1
+    [ -z "$has_cr" ] || in_copy
 }
 
 # show_place WHAT: the first lines of a message on a place of the copy
