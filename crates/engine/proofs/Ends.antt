@@ -10,7 +10,7 @@ use Rattle.machine.specs.declared.Mode.{Mode}
 use Rattle.machine.specs.declared.Mode.the-variants as mode
 use Rattle.machine.specs.declared.Last.{Last}
 use Rattle.machine.proofs.Mode.{the-type}
-use Rattle.machine.specs.Machine.{Result, ok, finish}
+use Rattle.machine.specs.Machine.{ok, finish}
 use Rattle.turns.specs.declared.Before.{Before}
 use Rattle.turns.specs.declared.Before.the-variants.{Nothing, Newline, Slash, Slashes3}
 use Rattle.turns.specs.Shown.{beforeOut}

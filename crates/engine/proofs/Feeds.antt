@@ -16,9 +16,9 @@ use Rattle.turns.specs.declared.Shown.{Shown}
 use Rattle.turns.specs.declared.Shown.the-variants.{Itself, Line, None}
 use Rattle.turns.specs.declared.Stepped.{Stepped}
 use Rattle.turns.specs.Shown.{beforeOut}
-use Rattle.turns.specs.Steps.{Stepping, shownOut, wholeOut, done, Does}
+use Rattle.turns.specs.Steps.{Stepping, shownOut, wholeOut, Does}
 use Rattle.engine.specs.Laid.{Laid, Room, shownBytes}
-use Rattle.engine.specs.Chars.{Part, partOf, stepBytes, Laying, CharFeeding, CharFed}
+use Rattle.engine.specs.Chars.{stepBytes, Laying, CharFeeding, CharFed}
 
 -- what was held back is ASCII
 pub plain-before : (b : Before) → encode (beforeOut b) ≡ beforeOut b

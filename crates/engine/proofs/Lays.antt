@@ -1,9 +1,9 @@
 -- Bytes laid one after the other: one law for each way.
-use Prim.Native.Nat.{ℕ, _+_, _-_, _≤_, _<_}
+use Prim.Native.Nat.{ℕ, _+_, _-_, _≤_}
 use mathlib.Core.Path.{_≡_, refl, sym, ap, subst, _∙_}
 use mathlib.Core.Bool.{Bool, true, false}
 use mathlib.Core.List.{List, [], _∷_, _++_}
-use lib.ListN.{length, take, drop, take-append-drop, length-append, length-take, length-drop}
+use lib.ListN.{length, take, drop, take-append-drop, length-append}
 use native.Mathlib.Omega.{arith}
 use Rattle.basics.specs.Choice.{pick}
 use Rattle.canon.proofs.Sounds.{false-true}
@@ -15,7 +15,7 @@ use Rattle.turns.specs.declared.Shown.{Shown}
 use Rattle.turns.specs.declared.Shown.the-variants.{Itself, Line, None}
 use Rattle.turns.specs.Shown.{beforeOut}
 use Rattle.engine.specs.Laid.{Laid, Room, shownBytes}
-use Rattle.engine.specs.Chars.{Part, partOf, stepBytes, Laying}
+use Rattle.engine.specs.Chars.{partOf, stepBytes, Laying}
 
 -- PUT OR COUNTED
 pub room-put : {w : Bool} {o : List ℕ} {n k : ℕ} → Room w o n k → w ≡ true → n + k ≤ length o

@@ -3,3 +3,4 @@ pub mod Feeds
 pub mod Ends
 pub mod Loops
 pub mod Wholes
+pub mod Answers

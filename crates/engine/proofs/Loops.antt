@@ -1,9 +1,8 @@
 -- The loop over the characters of a run: the characters before a place are fed, and what the machine writes of them is laid.
-use Prim.Native.Nat.{ℕ, suc, _+_, _-_, _≤_, _<_}
+use Prim.Native.Nat.{ℕ, _+_, _-_, _≤_, _<_}
 use mathlib.Core.Path.{_≡_, refl, sym, ap, subst, _∙_}
 use mathlib.Core.Bool.{Bool, true, false}
 use mathlib.Core.List.{List, [], _∷_, _++_, append-assoc, append-nil}
-use lib.Dec.{ltb}
 use lib.ListN.{length, take, drop, length-drop, length-append}
 use lib.Seq.{drop-drop, take-at}
 use native.Mathlib.Omega.{arith}
@@ -14,22 +13,20 @@ use Rattle.text.specs.declared.Decoded.the-variants.{Char, End, Ill}
 use Rattle.text.specs.Utf8.{decoded}
 use Rattle.text.specs.Chars.{chars, size, width, encode, encodeOne}
 use Rattle.text.proofs.Coding.{Fact, length-encodeOne}
-use Rattle.text.proofs.Texts.{stepped, told, length-encode, size-chars, width-some}
+use Rattle.text.proofs.Texts.{stepped, told, length-encode, size-chars}
 use Rattle.token.specs.Lists.{Lists, lent}
-use Rattle.token.proofs.Cover.{size-append}
 use Rattle.line_ends.specs.LineEnds.{crLf, replaced}
 use Rattle.canon.proofs.Spelling.{encode-append}
 use Rattle.machine.specs.declared.Mode.{Mode}
 use Rattle.machine.specs.declared.State.{State}
 use Rattle.machine.specs.Machine.{Next, step}
 use Rattle.machine.specs.Streams as stream
-use Rattle.machine.specs.Pieces.{feed, held, deepest}
+use Rattle.machine.specs.Pieces.{feed, deepest}
 use Rattle.machine.proofs.Cut.{room, few-held}
 use Rattle.machine.proofs.Small.{step-deep}
 use Rattle.engine.specs.declared.Kept.{Kept}
-use Rattle.engine.specs.declared.Ran.{Ran}
-use Rattle.engine.specs.Laid.{Laid, Room}
-use Rattle.engine.specs.Chars.{Part, CharFeeding, CharFed}
+use Rattle.engine.specs.Laid.{Laid}
+use Rattle.engine.specs.Chars.{CharFeeding, CharFed}
 use Rattle.engine.specs.Runs.{state, fedBy, Feeding, Fed}
 use Rattle.engine.proofs.Lays.{laid-none, laid-then, laid-length}
 

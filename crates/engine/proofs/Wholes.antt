@@ -1,17 +1,17 @@
 -- A whole text: what the machine says of it is the key of the replaced text.
-use Prim.Native.Nat.{ℕ, _+_, _≤_, _<_}
+use Prim.Native.Nat.{ℕ, _+_, _≤_}
 use mathlib.Core.Path.{_≡_, refl, sym, ap, subst, _∙_}
 use mathlib.Core.Bool.{Bool, true, false}
-use mathlib.Core.List.{List, [], _∷_, _++_}
-use lib.ListN.{length, drop, take, length-append}
+use mathlib.Core.List.{List, [], _++_}
+use lib.ListN.{length, drop, length-append}
 use native.Mathlib.Omega.{arith}
 use Rattle.basics.specs.Choice.{pick}
-use Rattle.text.specs.Chars.{chars, encode, WellFormed}
+use Rattle.text.specs.Chars.{encode, WellFormed}
 use Rattle.eaters.specs.Find.{Place, at, nowhere}
 use Rattle.token.specs.Lists.{Lists, lent}
 use Rattle.line_ends.specs.LineEnds.{replaced}
 use Rattle.line_ends.proofs.Coded.{un-chars}
-use Rattle.canon.specs.Keyable.{Keyable, brokenAt}
+use Rattle.canon.specs.Keyable.{brokenAt}
 use Rattle.canon.specs.Key.{keyOf}
 use Rattle.canon.proofs.Spelling.{encode-append}
 use Rattle.canon.proofs.Sounds.{false-true}
@@ -21,7 +21,7 @@ use Rattle.machine.specs.declared.State.{State}
 use Rattle.machine.specs.Machine.{Result, ok, bad, put, finish}
 use Rattle.machine.specs.Streams as stream
 use Rattle.machine.specs.Pieces.{begin, feed, ended}
-use Rattle.machine.specs.OneShot.{keyOr, oneShot, inBytes}
+use Rattle.machine.specs.OneShot.{keyOr, inBytes}
 use Rattle.machine.proofs.Cut.{one-shot}
 use Rattle.puts.specs.Put.{laid}
 use Rattle.turns.specs.declared.Before.{Before}
@@ -34,7 +34,7 @@ use Rattle.engine.specs.declared.Ran.{Ran}
 use Rattle.engine.specs.Laid.{Laid, Room}
 use Rattle.engine.specs.Runs.{state, fedBy, Feeding, Fed}
 use Rattle.engine.specs.Ends.{endResult, Ends}
-use Rattle.engine.specs.Wholes.{needFor, needOf, Keying, Keyed}
+use Rattle.engine.specs.Wholes.{needFor, Keying, Keyed}
 use Rattle.engine.proofs.Lays.{laid-then, laid-length, before-few}
 use Rattle.engine.proofs.Feeds.{plain-before}
 use Rattle.engine.proofs.Loops.{fed-few}

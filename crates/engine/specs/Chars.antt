@@ -5,7 +5,7 @@ use mathlib.Core.Bool.{Bool}
 use mathlib.Core.List.{List, [], _∷_, _++_}
 use lib.ListN.{length, take, drop}
 use Rattle.text.specs.Chars.{encode}
-use Rattle.token.specs.Lists.{Lists, lent}
+use Rattle.token.specs.Lists.{lent}
 use Rattle.machine.specs.declared.Mode.{Mode}
 use Rattle.machine.specs.Machine.{Next, step}
 use Rattle.turns.specs.declared.Before.{Before}

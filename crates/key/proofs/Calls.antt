@@ -25,7 +25,7 @@ use Rattle.canon.proofs.Sounds.{false-true}
 use Rattle.engine.specs.declared.Need.{Need}
 use Rattle.engine.specs.declared.Need.the-variants.{Bytes, Mending}
 use Rattle.engine.specs.Wholes as whole
-use Rattle.engine.specs.Wholes.{needFor, needOf}
+use Rattle.engine.specs.Wholes.{needFor}
 use Rattle.key.specs.declared.KeyAnswer.{KeyAnswer}
 use Rattle.key.specs.declared.KeyAnswer.the-variants.{Keyed, DoubleReturn, Broken, Room, Refused}
 use Rattle.key.specs.Answers.{roomed, unbroken, single, checkedAnswer, keyAnswer, CheckedKeying, Keying, keyNumbers}

@@ -7,13 +7,12 @@ use Rattle.eaters.specs.Find.{nowhere}
 use Rattle.refusal.specs.declared.Verdict.the-variants as verdict
 use Rattle.token.specs.Lists.{Lists}
 use Rattle.lexer.specs.Answers.{tokenVerdict}
-use Rattle.line_ends.specs.LineEnds.{replaced, doubleReturn}
+use Rattle.line_ends.specs.LineEnds.{doubleReturn}
 use Rattle.line_ends.specs.Twins.{Twins}
 use Rattle.line_ends.proofs.Twins.{twins-replaced}
-use Rattle.canon.specs.Key.{keyOf}
 use Rattle.machine.proofs.LineEnds.{twins-key}
 use Rattle.key.specs.declared.KeyAnswer.the-variants.{Keyed}
-use Rattle.key.specs.Answers.{keyAnswer, checkedAnswer, Keying}
+use Rattle.key.specs.Answers.{keyAnswer, Keying}
 use Rattle.key.proofs.Fits.{done}
 use Rattle.key.proofs.Canonical.{wrote-key}
 

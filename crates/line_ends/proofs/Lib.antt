@@ -2,3 +2,4 @@ pub mod Replaced
 pub mod Coded
 pub mod Places
 pub mod Twins
+pub mod Answers

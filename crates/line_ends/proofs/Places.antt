@@ -1,12 +1,12 @@
 -- Where CR CR LF stands, found from the left; and whether LF follows a CR, by the bytes.
-use Prim.Native.Nat.{ℕ, zero, suc, _+_, _-_, _≤_, _<_}
-use mathlib.Core.Path.{_≡_, refl, sym, ap, subst, _∙_}
+use Prim.Native.Nat.{ℕ, suc, _+_, _-_, _≤_, _<_}
+use mathlib.Core.Path.{_≡_, refl, sym, ap, _∙_}
 use mathlib.Core.List.{List, [], _∷_}
 use mathlib.Core.Bool.{Bool, true, false}
 use lib.ListN.{length, getD, drop, length-drop}
 use lib.Dec.{eqb}
 use lib.Seq.{drop-cons}
-use borrow.Author.Tests.{eq-eqb, ne-eqb}
+use borrow.Author.Tests.{ne-eqb}
 use native.Mathlib.Omega.{arith}
 use Rattle.basics.specs.Choice.{pick, and}
 use Rattle.text.specs.declared.Decoded.{Decoded}
@@ -16,7 +16,6 @@ use Rattle.text.specs.Utf8.{decoded}
 use Rattle.text.specs.Chars.{chars}
 use Rattle.text.proofs.Texts.{stepped}
 use Rattle.eaters.specs.Find.{Place, at, nowhere, further, find}
-use Rattle.line_ends.specs.declared.Found.{Found}
 use Rattle.line_ends.specs.declared.Found.the-variants.{At, Nowhere}
 use Rattle.line_ends.specs.LineEnds.{crLf, doubleAt, doubleReturn}
 use Rattle.line_ends.specs.Found.{foundAt}

@@ -21,7 +21,7 @@ both false t e = false-true e
 -- A TEXT WITHOUT CR LF stays as it is
 pub same : (s : List ℕ) → noCrLf s ≡ true → replaced s ≡ s
 same [] h = refl
-same (c ∷ cs) h = go (and (is 'carriage-return' c) (is 'newline' (getD cs 0 0))) h (λ e. same cs e)
+same (c ∷ cs) h = go (crLf c cs) h (λ e. same cs e)
   where
     go : (b : Bool) → and (not b) (noCrLf cs) ≡ true → (noCrLf cs ≡ true → replaced cs ≡ cs) → pick b (replaced cs) (c ∷ replaced cs) ≡ c ∷ cs
     go true h r = false-true h
@@ -35,7 +35,7 @@ noDouble (c ∷ cs) = and (not (and (is 'carriage-return' c) (and (is 'carriage-
 -- the first character of the replaced text is LF only where LF or CR LF stood
 first : (cs : List ℕ) → is 'newline' (getD (replaced cs) 0 0) ≡ true → or (is 'newline' (getD cs 0 0)) (and (is 'carriage-return' (getD cs 0 0)) (is 'newline' (getD cs 1 0))) ≡ true
 first [] h = false-true h
-first (c ∷ cs) h = go (and (is 'carriage-return' c) (is 'newline' (getD cs 0 0))) h
+first (c ∷ cs) h = go (crLf c cs) h
   where
     tr : (s : Bool) → or s true ≡ true
     tr true = refl

@@ -1,12 +1,9 @@
 -- Texts that differ only in CR LF for LF are replaced by the same text, where CR CR LF stands in neither.
 use Prim.Native.Nat.{ℕ}
-use mathlib.Core.Path.{_≡_, refl, sym, ap, _∙_}
-use mathlib.Core.List.{List, [], _∷_}
+use mathlib.Core.Path.{_≡_, refl, ap}
+use mathlib.Core.List.{List, _∷_}
 use mathlib.Core.Bool.{Bool, true, false}
-use lib.ListN.{getD}
-use lib.Dec.{eqb}
 use Rattle.basics.specs.Choice.{pick, and}
-use Rattle.basics.proofs.Choices.{and-2}
 use Rattle.eaters.specs.Find.{Place, at, nowhere, further, find}
 use Rattle.token.specs.Names.{is, 'newline', 'carriage-return'}
 use Rattle.canon.proofs.Sounds.{false-true}

@@ -1,6 +1,5 @@
 -- `engine::whole` meets its contract. The machine's result on the replaced text (Wholes).
 use borrow.Author.Needs.{needs}
-use Rattle.engine.proofs.Lays.{laid-length, laid-length-2}
 use Rattle.engine.proofs.Wholes.{whole-feeds, whole-room, whole-keyed, whole-broken}
 use Rattle.engine.proofs.whole.Statement.{statement}
 use Rattle.engine.proofs.whole.Tie as tie
