@@ -1,4 +1,5 @@
 pub mod Ways
-pub mod Arms
-pub mod Whole
+pub mod Begun
+pub mod Held
+pub mod Modes
 pub mod Steps

@@ -1,27 +1,29 @@
 -- One law for each way of the step.
 use Prim.Native.Nat.{ℕ}
-use mathlib.Core.Path.{_≡_, refl, sym, ap, _∙_}
+use mathlib.Core.Path.{_≡_, sym, ap, _∙_}
 use mathlib.Core.Bool.{Bool, true, false}
 use mathlib.Core.List.{List}
-use Rattle.token.specs.Lists.{Lists, lent}
+use Rattle.token.specs.Lists.{lent}
 use Rattle.machine.specs.declared.Mode.{Mode}
-use Rattle.machine.specs.Machine.{Next, preceded, atStart, step}
-use Rattle.turns.specs.declared.Goes.{Goes}
-use Rattle.turns.specs.declared.Goes.the-variants.{Takes, Drops, Ends}
+use Rattle.machine.specs.Machine.{preceded, atStart, step}
+use Rattle.goes.specs.declared.Goes.{Goes}
+use Rattle.goes.specs.declared.Goes.the-variants.{Takes, Drops, Ends}
+use Rattle.goes.specs.Went.{went}
 use Rattle.turns.specs.declared.Before.{Before}
 use Rattle.turns.specs.declared.Shown.the-variants.{Itself, Line, None}
 use Rattle.turns.specs.declared.Stepped.{Stepped}
 use Rattle.turns.specs.declared.Turn.{Turn}
 use Rattle.turns.specs.declared.First.{First}
 use Rattle.turns.specs.declared.First.the-variants.{Writes, Holds, Blank}
-use Rattle.turns.specs.Shown.{beforeOut, went, shown, begun}
-use Rattle.turns.specs.Turns.{firstOf, turnOf}
+use Rattle.turns.specs.Shown.{beforeOut}
+use Rattle.turns.specs.First.{firstOf, begun}
+use Rattle.turns.specs.Turned.{Turned}
 use Rattle.turns.specs.Steps.{Does, Begins}
-use Rattle.turns.proofs.Whole.{whole, begins-whole}
+use Rattle.turns.proofs.Begun.{first-as}
 
 module _ (a e : List ℕ) (u : Before) (gap : Bool) (c : ℕ) {f : First} (q : f ≡ firstOf a e gap c) where
   first-by : {g : First} → f ≡ g → (b : List ℕ) (p : ℕ) → preceded (beforeOut u) (begun p c g) ≡ preceded (beforeOut u) (atStart (lent a b e) p gap c)
-  first-by r b p = ap (λ (x : First). preceded (beforeOut u) (begun p c x)) (sym r ∙ q) ∙ ap (preceded (beforeOut u)) (begins-whole (lent a b e) 0 p c gap)
+  first-by r b p = ap (λ (x : First). preceded (beforeOut u) (begun p c x)) (sym r ∙ q) ∙ ap (preceded (beforeOut u)) (first-as (lent a b e) p c gap)
 
   pub first-writes : {m : Mode} → f ≡ Writes m → Begins a e u gap c (record { before = u; shown = Itself; mode = m; begins = true })
   first-writes r = record { does = λ b st p. first-by r b p }
@@ -32,13 +34,12 @@ module _ (a e : List ℕ) (u : Before) (gap : Bool) (c : ℕ) {f : First} (q : f
   pub first-blank : {m : Mode} → f ≡ Blank m → Begins a e u gap c (record { before = u; shown = Line; mode = m; begins = true })
   first-blank r = record { does = λ b st p. first-by r b p }
 
-module _ (a b e : List ℕ) (m : Mode) (c : ℕ) {t : Turn} {u : Before} {g : Goes} (q : t ≡ turnOf a b e m c) (x : u ≡ t .before) (y : g ≡ t .goes) where
+module _ (a b e : List ℕ) (m : Mode) (c : ℕ) {t : Turn} {u : Before} {g : Goes} (q : Turned (lent a b e) m c t) (x : u ≡ t .before) (y : g ≡ t .goes) where
   step-by : {h : Goes} → g ≡ h → (st p : ℕ) → preceded (beforeOut u) (went (lent a b e) st p c h) ≡ step (lent a b e) st p m c
   step-by {h} z st p =
       ap (λ (v : Before). preceded (beforeOut v) (went (lent a b e) st p c h)) x
       ∙ ap (λ (v : Goes). preceded (beforeOut (t .before)) (went (lent a b e) st p c v)) (sym z ∙ y)
-      ∙ ap (shown (lent a b e) st p c) q
-      ∙ whole (lent a b e) st p c m
+      ∙ q .does st p
 
   pub step-takes : {n : Mode} → g ≡ Takes n → Does (lent a b e) m c (record { before = u; shown = Itself; mode = n; begins = false })
   step-takes z = record { does = step-by z }

@@ -1,3 +1,5 @@
-pub mod Turns
+pub mod First
+pub mod Held
 pub mod Shown
+pub mod Turned
 pub mod Steps

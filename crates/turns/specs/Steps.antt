@@ -1,5 +1,5 @@
 -- What the step of one character asks and promises: it is the machine's, for any places.
-use Prim.Native.Nat.{ℕ, _<_}
+use Prim.Native.Nat.{ℕ}
 use mathlib.Core.Path.{_≡_}
 use mathlib.Core.Bool.{Bool}
 use mathlib.Core.List.{List, [], _∷_, _++_}
@@ -9,12 +9,12 @@ use Rattle.token.specs.Names.{'newline'}
 use Rattle.token.specs.Lists.{Lists, lent}
 use Rattle.machine.specs.declared.Mode.{Mode}
 use Rattle.machine.specs.Machine.{Next, preceded, atStart, step}
+use Rattle.goes.specs.Went.{Shallow}
 use Rattle.turns.specs.declared.Before.{Before}
 use Rattle.turns.specs.declared.Shown.{Shown}
 use Rattle.turns.specs.declared.Shown.the-variants.{Itself, Line, None}
 use Rattle.turns.specs.declared.Stepped.{Stepped}
 use Rattle.turns.specs.Shown.{beforeOut}
-use Rattle.turns.specs.Turns.{Shallow}
 
 -- the lists are good, and depth and hashes can be counted one further
 pub record Stepping (mode : Mode) (starts continues emoji : List ℕ) : Type 0 where

@@ -1,3 +1,4 @@
+-- `turns::begins` meets its contract. By the character (Ways).
 use borrow.Author.Needs.{needs}
 use Rattle.turns.proofs.Ways.{begins-1, begins-2, begins-3, begins-4}
 use Rattle.turns.proofs.begins.Statement.{statement}

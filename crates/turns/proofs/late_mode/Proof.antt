@@ -1,3 +1,4 @@
+-- `turns::late_mode` meets its contract. By the character (Ways).
 use borrow.Author.Needs.{needs}
 use Rattle.turns.proofs.Ways.{late-mode-1, late-mode-2, late-mode-3, late-mode-4, late-mode-5}
 use Rattle.turns.proofs.late_mode.Statement.{statement}

@@ -1,6 +1,7 @@
+-- `turns::one_slash` meets its contract. By the character (Ways).
 use borrow.Author.Needs.{needs}
-use borrow.Author.Tests.{lt-ltb, le-ltb, le-leb, lt-leb, eq-eqb, ne-eqb}
-use Rattle.turns.specs.Turns.{oneSlash}
+use borrow.Author.Tests.{eq-eqb, ne-eqb}
+use Rattle.turns.specs.Held.{oneSlash}
 use Rattle.turns.proofs.Ways.{one-slash-3}
 use Rattle.turns.proofs.one_slash.Statement.{statement}
 use Rattle.turns.proofs.one_slash.Tie as tie
@@ -10,14 +11,14 @@ turned-requires c κs = search needs
 
 returns : tie.Need-returns
 unfolding oneSlash
-returns c = search (needs, lt-ltb, le-ltb, le-leb, lt-leb, eq-eqb, ne-eqb)
+returns c = search (needs, eq-eqb)
 
 turned-requires-2 : tie.Need-turned-requires-2
 turned-requires-2 c κs = search needs
 
 returns-2 : tie.Need-returns-2
 unfolding oneSlash
-returns-2 c = search (needs, lt-ltb, le-ltb, le-leb, lt-leb, eq-eqb, ne-eqb)
+returns-2 c = search (needs, eq-eqb, ne-eqb)
 
 turned-requires-3 : tie.Need-turned-requires-3
 turned-requires-3 c κs = search needs

@@ -1,3 +1,4 @@
+-- `turns::other_mode` meets its contract. By the character (Ways).
 use borrow.Author.Needs.{needs}
 use Rattle.turns.proofs.Ways.{other-mode-1, other-mode-2, other-mode-3, other-mode-4, other-mode-5, other-mode-6, other-mode-7, other-mode-8}
 use Rattle.turns.proofs.other_mode.Statement.{statement}

@@ -1,3 +1,4 @@
+-- `turns::slash_star` meets its contract. By the character (Ways).
 use borrow.Author.Needs.{needs}
 use Rattle.turns.proofs.Ways.{slash-star-1, slash-star-2, slash-star-3}
 use Rattle.turns.proofs.slash_star.Statement.{statement}

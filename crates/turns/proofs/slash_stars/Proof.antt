@@ -1,3 +1,4 @@
+-- `turns::slash_stars` meets its contract. By the character (Ways).
 use borrow.Author.Needs.{needs}
 use Rattle.turns.proofs.Ways.{slash-stars-1, slash-stars-2, slash-stars-3}
 use Rattle.turns.proofs.slash_stars.Statement.{statement}

@@ -1,3 +1,4 @@
+-- `turns::three_slashes` meets its contract. By the character (Ways).
 use borrow.Author.Needs.{needs}
 use Rattle.turns.proofs.Ways.{three-slashes-1, three-slashes-2}
 use Rattle.turns.proofs.three_slashes.Statement.{statement}

@@ -1,6 +1,7 @@
+-- `turns::two_slashes` meets its contract. By the character (Ways).
 use borrow.Author.Needs.{needs}
-use borrow.Author.Tests.{lt-ltb, le-ltb, le-leb, lt-leb, eq-eqb, ne-eqb}
-use Rattle.turns.specs.Turns.{twoSlashes}
+use borrow.Author.Tests.{eq-eqb, ne-eqb}
+use Rattle.turns.specs.Held.{twoSlashes}
 use Rattle.turns.proofs.Ways.{two-slashes-3}
 use Rattle.turns.proofs.two_slashes.Statement.{statement}
 use Rattle.turns.proofs.two_slashes.Tie as tie
@@ -10,14 +11,14 @@ turned-requires c κs = search needs
 
 returns : tie.Need-returns
 unfolding twoSlashes
-returns c = search (needs, lt-ltb, le-ltb, le-leb, lt-leb, eq-eqb, ne-eqb)
+returns c = search (needs, eq-eqb)
 
 turned-requires-2 : tie.Need-turned-requires-2
 turned-requires-2 c κs = search needs
 
 returns-2 : tie.Need-returns-2
 unfolding twoSlashes
-returns-2 c = search (needs, lt-ltb, le-ltb, le-leb, lt-leb, eq-eqb, ne-eqb)
+returns-2 c = search (needs, eq-eqb, ne-eqb)
 
 newline-or-requires : tie.Need-newline-or-requires
 newline-or-requires c κs = search needs

@@ -1,0 +1,4 @@
+pub mod Choices
+pub mod Among
+pub mod Modes
+pub mod Suffix

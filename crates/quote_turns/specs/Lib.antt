@@ -1,0 +1,3 @@
+pub mod Quotes
+pub mod Raw
+pub mod Quoted
