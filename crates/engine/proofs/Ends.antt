@@ -8,11 +8,11 @@ use types.Run.{OneOf, miss}
 use Rattle.basics.specs.Choice.{pick}
 use Rattle.machine.specs.declared.Mode.{Mode}
 use Rattle.machine.specs.declared.Mode.the-variants as mode
-use Rattle.machine.specs.declared.Last.{Last}
 use Rattle.machine.proofs.Mode.{the-type}
 use Rattle.machine.specs.Machine.{ok, finish}
 use Rattle.turns.specs.declared.Before.{Before}
 use Rattle.turns.specs.declared.Before.the-variants.{Nothing, Newline, Slash, Slashes3}
+use Rattle.turns.specs.Held.{newlineOr}
 use Rattle.turns.specs.Shown.{beforeOut}
 use Rattle.engine.specs.declared.End.{End}
 use Rattle.engine.specs.declared.End.the-variants.{Rest, Broken}
@@ -25,7 +25,8 @@ ends-as {m} {k} {e} q h = subst (λ (x : Mode). Ends x e) (sym q) (record { ends
 pub end-one : {m : Mode} {r : Bool} → m ≡ mode.OneSlash r → Ends m (Rest Slash)
 end-one q = ends-as q (λ from. refl)
 
-pub end-two : {m : Mode} {r : Bool} {b : Before} → m ≡ mode.TwoSlashes r → b ≡ pick r Nothing Newline → Ends m (Rest b)
+pub end-two : {m : Mode} {r : Bool} {b : Before} → m ≡ mode.TwoSlashes r → b ≡ newlineOr r → Ends m (Rest b)
+unfolding newlineOr
 end-two {r = r} {b = b} q e = ends-as q (λ from. ap (λ (x : Before). ok (beforeOut x)) e ∙ go r)
   where
     go : (t : Bool) → ok (beforeOut (pick t Nothing Newline)) ≡ finish 0 (mode.TwoSlashes t)
@@ -35,51 +36,54 @@ end-two {r = r} {b = b} q e = ends-as q (λ from. ap (λ (x : Before). ok (befor
 pub end-three : {m : Mode} {r : Bool} → m ≡ mode.ThreeSlashes r → Ends m (Rest Slashes3)
 end-three q = ends-as q (λ from. refl)
 
--- A TOKEN THAT IS NOT ENDED IS BROKEN
-pub end-slash-star : {m : Mode} {r : Bool} → m ≡ mode.SlashStar r → Ends m Broken
-end-slash-star q = ends-as q (λ from. refl)
+-- A TOKEN THAT IS NOT ENDED IS BROKEN: these modes, by their places in the enum
+abbrev unended : List ℕ
+unended = 4 ∷ 5 ∷ 8 ∷ 13 ∷ 14 ∷ 15 ∷ 17 ∷ 24 ∷ 25 ∷ 27 ∷ 30 ∷ 31 ∷ 32 ∷ 33 ∷ 34 ∷ []
 
-pub end-slash-stars : {m : Mode} {r : Bool} → m ≡ mode.SlashStars r → Ends m Broken
-end-slash-stars q = ends-as q (λ from. refl)
-
-pub end-block : {m : Mode} {doc : Bool} {d : ℕ} {l : Last} → m ≡ mode.Block doc d l → Ends m Broken
-end-block q = ends-as q (λ from. refl)
-
-pub end-in-string : {m : Mode} → m ≡ mode.InString → Ends m Broken
-end-in-string q = ends-as q (λ from. refl)
-
-pub end-string-escape : {m : Mode} → m ≡ mode.StringEscape → Ends m Broken
-end-string-escape q = ends-as q (λ from. refl)
-
-pub end-broken : {m : Mode} → m ≡ mode.Broken → Ends m Broken
-end-broken q = ends-as q (λ from. refl)
-
-pub end-got-r-hash : {m : Mode} → m ≡ mode.GotRHash → Ends m Broken
-end-got-r-hash q = ends-as q (λ from. refl)
-
-pub end-got-quote : {m : Mode} → m ≡ mode.GotQuote → Ends m Broken
-end-got-quote q = ends-as q (λ from. refl)
-
-pub end-got-byte-quote : {m : Mode} → m ≡ mode.GotByteQuote → Ends m Broken
-end-got-byte-quote q = ends-as q (λ from. refl)
-
-pub end-wants-quote : {m : Mode} → m ≡ mode.WantsQuote → Ends m Broken
-end-wants-quote q = ends-as q (λ from. refl)
-
-pub end-in-quotes : {m : Mode} → m ≡ mode.InQuotes → Ends m Broken
-end-in-quotes q = ends-as q (λ from. refl)
-
-pub end-quotes-escape : {m : Mode} → m ≡ mode.QuotesEscape → Ends m Broken
-end-quotes-escape q = ends-as q (λ from. refl)
-
-pub end-raw-hashes : {m : Mode} {n : ℕ} → m ≡ mode.RawHashes n → Ends m Broken
-end-raw-hashes q = ends-as q (λ from. refl)
-
-pub end-raw-body : {m : Mode} {n : ℕ} → m ≡ mode.RawBody n → Ends m Broken
-end-raw-body q = ends-as q (λ from. refl)
-
-pub end-raw-end : {m : Mode} {n : ℕ} {j : ℕ} → m ≡ mode.RawEnd n j → Ends m Broken
-end-raw-end q = ends-as q (λ from. refl)
+pub end-broken : (m : Mode) → OneOf unended (tagOf the-type m) → Ends m Broken
+end-broken (mode.Start r) h = absurd (miss unended 0 tt h)
+end-broken (mode.OneSlash r) h = absurd (miss unended 1 tt h)
+end-broken (mode.TwoSlashes r) h = absurd (miss unended 2 tt h)
+end-broken (mode.ThreeSlashes r) h = absurd (miss unended 3 tt h)
+end-broken (mode.SlashStar r) h = record { ends = λ from. refl }
+end-broken (mode.SlashStars r) h = record { ends = λ from. refl }
+end-broken mode.DocLine h = absurd (miss unended 6 tt h)
+end-broken mode.PlainLine h = absurd (miss unended 7 tt h)
+end-broken (mode.Block doc d l) h = record { ends = λ from. refl }
+end-broken mode.InWord h = absurd (miss unended 9 tt h)
+end-broken mode.InBadWord h = absurd (miss unended 10 tt h)
+end-broken mode.InName h = absurd (miss unended 11 tt h)
+end-broken mode.Suffix h = absurd (miss unended 12 tt h)
+end-broken mode.InString h = record { ends = λ from. refl }
+end-broken mode.StringEscape h = record { ends = λ from. refl }
+end-broken mode.Broken h = record { ends = λ from. refl }
+end-broken mode.GotR h = absurd (miss unended 16 tt h)
+end-broken mode.GotRHash h = record { ends = λ from. refl }
+end-broken mode.GotK h = absurd (miss unended 18 tt h)
+end-broken mode.GotNameHash h = absurd (miss unended 19 tt h)
+end-broken mode.GotB h = absurd (miss unended 20 tt h)
+end-broken mode.GotC h = absurd (miss unended 21 tt h)
+end-broken mode.GotBR h = absurd (miss unended 22 tt h)
+end-broken mode.GotHash h = absurd (miss unended 23 tt h)
+end-broken mode.GotQuote h = record { ends = λ from. refl }
+end-broken mode.GotByteQuote h = record { ends = λ from. refl }
+end-broken mode.GotQuotes h = absurd (miss unended 26 tt h)
+end-broken mode.WantsQuote h = record { ends = λ from. refl }
+end-broken (mode.QuotedName r) h = absurd (miss unended 28 tt h)
+end-broken mode.InLifetime h = absurd (miss unended 29 tt h)
+end-broken mode.InQuotes h = record { ends = λ from. refl }
+end-broken mode.QuotesEscape h = record { ends = λ from. refl }
+end-broken (mode.RawHashes n) h = record { ends = λ from. refl }
+end-broken (mode.RawBody n) h = record { ends = λ from. refl }
+end-broken (mode.RawEnd n j) h = record { ends = λ from. refl }
+end-broken mode.GotZero h = absurd (miss unended 35 tt h)
+end-broken mode.InDigits h = absurd (miss unended 36 tt h)
+end-broken (mode.InBased x) h = absurd (miss unended 37 tt h)
+end-broken (mode.InHex x) h = absurd (miss unended 38 tt h)
+end-broken mode.GotDot h = absurd (miss unended 39 tt h)
+end-broken mode.InFraction h = absurd (miss unended 40 tt h)
+end-broken mode.GotE h = absurd (miss unended 41 tt h)
+end-broken mode.InExponent h = absurd (miss unended 42 tt h)
 
 -- ALL OTHERS are ended
 abbrev quiet : List ℕ

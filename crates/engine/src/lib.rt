@@ -6,7 +6,6 @@ ghost use Rattle.basics.specs.Choice.{pick};
 ghost use Rattle.token.specs.Lists.{lent};
 ghost use Rattle.machine.specs.Machine.{step};
 ghost use Rattle.turns.specs.Shown.{beforeOut};
-ghost use Rattle.turns.specs.declared.Before.the-variants.{Nothing, Newline};
 ghost use Rattle.engine.specs.Laid.{Laid, Room};
 ghost use Rattle.engine.specs.Chars.{stepBytes, Laying, CharFeeding, CharFed};
 ghost use Rattle.engine.specs.Runs.{state, Feeding, Fed};
@@ -192,46 +191,36 @@ pub enum End {
     Broken,
 }
 
-// The newline of a run of trivia, unless one stands right before.
-fn held_newline(gap: bool) -> Before
-    ensures { λ r. ⌜ r ≡ pick gap Nothing Newline ⌝ }
-{
-    if gap {
-        return Before::Nothing;
-    }
-    Before::Newline
-}
-
-// THE END of a text.
+// THE END of a text: a token that has begun and is not ended is broken.
 pub fn end_of(mode: Mode) -> End
     ensures { λ r. ⌜ Ends mode r ⌝ }
 {
     match mode {
         Mode::OneSlash { gap: _ } => End::Rest(Before::Slash),
         Mode::TwoSlashes { gap } => {
-            let before = held_newline(gap);
+            let before = turns::newline_or(gap);
             End::Rest(before)
         }
         Mode::ThreeSlashes { gap: _ } => End::Rest(Before::Slashes3),
-        Mode::SlashStar { gap: _ } => End::Broken,
-        Mode::SlashStars { gap: _ } => End::Broken,
-        Mode::Block {
+        Mode::SlashStar { gap: _ }
+        | Mode::SlashStars { gap: _ }
+        | Mode::Block {
             doc: _,
             depth: _,
             last: _,
-        } => End::Broken,
-        Mode::InString => End::Broken,
-        Mode::StringEscape => End::Broken,
-        Mode::Broken => End::Broken,
-        Mode::GotRHash => End::Broken,
-        Mode::GotQuote => End::Broken,
-        Mode::GotByteQuote => End::Broken,
-        Mode::WantsQuote => End::Broken,
-        Mode::InQuotes => End::Broken,
-        Mode::QuotesEscape => End::Broken,
-        Mode::RawHashes { hashes: _ } => End::Broken,
-        Mode::RawBody { hashes: _ } => End::Broken,
-        Mode::RawEnd { hashes: _, more: _ } => End::Broken,
+        }
+        | Mode::InString
+        | Mode::StringEscape
+        | Mode::Broken
+        | Mode::GotRHash
+        | Mode::GotQuote
+        | Mode::GotByteQuote
+        | Mode::WantsQuote
+        | Mode::InQuotes
+        | Mode::QuotesEscape
+        | Mode::RawHashes { hashes: _ }
+        | Mode::RawBody { hashes: _ }
+        | Mode::RawEnd { hashes: _, more: _ } => End::Broken,
         _ => End::Rest(Before::Nothing),
     }
 }

@@ -119,7 +119,7 @@ fn begins(gap: bool, c: CodePoint, starts: &[u32], emoji: &[u32]) -> First
 }
 
 // One newline for a run of trivia, unless it is written already.
-fn newline_or(gap: bool) -> Before
+pub fn newline_or(gap: bool) -> Before
     ensures { λ r. ⌜ r ≡ newlineOr gap ⌝ }
 {
     if gap {
