@@ -1,5 +1,5 @@
 -- THE REPLACED TEXT (document 02, W3): it is the text itself where that has no CR LF; and it has no CR LF where the text has no CR CR LF, which is what refusal 10 is for.
-use Prim.Native.Nat.{ℕ, _≤_}
+use Prim.Native.Nat.{ℕ, _≤_, zero-le}
 use mathlib.Core.Path.{_≡_, refl, sym, ap, _∙_}
 use mathlib.Core.List.{List, [], _∷_}
 use mathlib.Core.Bool.{Bool, true, false, not}
@@ -7,16 +7,17 @@ use lib.ListN.{length, getD}
 use borrow.Author.Tests.{not-true}
 use native.Mathlib.Omega.{arith}
 use Rattle.basics.specs.Choice.{pick, and, or}
+use Rattle.basics.proofs.Choices.{and-1, and-2}
 use Rattle.eaters.specs.Find.{Place, at, nowhere, further, find}
 use Rattle.eaters.specs.Look.{begins}
+use Rattle.eaters.proofs.Firsts.{find-never}
 use Rattle.token.specs.Names.{is, 'newline', 'carriage-return'}
 use Rattle.canon.proofs.Sounds.{false-true}
-use Rattle.line_ends.specs.LineEnds.{crLf, replaced, noCrLf, doubleReturn}
+use Rattle.line_ends.specs.LineEnds.{crLf, replaced, noCrLf, doubleAt, doubleReturn}
 
 -- both parts of a test that holds
 pub both : (s t : Bool) → and s t ≡ true → (s ≡ true) × (t ≡ true)
-both true t e = (refl, e)
-both false t e = false-true e
+both s t e = (and-1 s t e, and-2 s t e)
 
 -- A TEXT WITHOUT CR LF stays as it is
 pub same : (s : List ℕ) → noCrLf s ≡ true → replaced s ≡ s
@@ -77,11 +78,21 @@ no-double (c ∷ cs) f = go (is 'carriage-return' c) refl (is 'carriage-return' 
             let q : and (not (and true (is 'newline' (getD ds 0 0)))) (noCrLf ds) ≡ true = rw y at f in
             not-true (is 'newline' (getD ds 0 0)) (both (not (is 'newline' (getD ds 0 0))) (noCrLf ds) q .0)
 
--- where the search for CR CR LF finds none there is none, and the other way round
+-- WHERE THE SEARCH FOR CR CR LF FINDS NONE, none is here
+pub none-here : (c : ℕ) (s : List ℕ) → doubleReturn (c ∷ s) ≡ nowhere → doubleAt (c ∷ s) ≡ false
+none-here c s e = find-never doubleAt (c ∷ s) e .never 0 zero-le
+
+-- and none further on
 further-nowhere : (q : Place) → further q ≡ nowhere → q ≡ nowhere
 further-nowhere nowhere e = refl
 further-nowhere (at k) e = let z : _≡_ {A = ℕ} 0 1 = cc in absurd (omega arith)
 
+pub none-further : (c : ℕ) (s : List ℕ) → doubleReturn (c ∷ s) ≡ nowhere → doubleReturn s ≡ nowhere
+unfolding find
+none-further c s e =
+    further-nowhere (doubleReturn s) (sym (ap (λ (t : Bool). pick t (at 0) (further (doubleReturn s))) (none-here c s e)) ∙ e)
+
+-- so that there is none, and the other way round
 look : (s : List ℕ) → begins ('carriage-return' ∷ 'newline' ∷ []) s ≡ and (is 'carriage-return' (getD s 0 0)) (is 'newline' (getD s 1 0))
 look [] = refl
 look (a ∷ []) = refl
@@ -92,15 +103,10 @@ look (a ∷ b ∷ s) = whole (is 'newline' b)
     whole false = refl
 
 none-found : (s : List ℕ) → doubleReturn s ≡ nowhere → noDouble s ≡ true
-unfolding find
 none-found [] e = refl
-none-found (c ∷ s) e = go (and (is 'carriage-return' c) (begins ('carriage-return' ∷ 'newline' ∷ []) s)) refl e (none-found s)
-  where
-    go : (t : Bool) → and (is 'carriage-return' c) (begins ('carriage-return' ∷ 'newline' ∷ []) s) ≡ t → pick t (at 0) (further (doubleReturn s)) ≡ nowhere → (doubleReturn s ≡ nowhere → noDouble s ≡ true) → noDouble (c ∷ s) ≡ true
-    go true h e i = let z : _≡_ {A = ℕ} 0 1 = cc in absurd (omega arith)
-    go false h e i =
-        let q : and (is 'carriage-return' c) (and (is 'carriage-return' (getD s 0 0)) (is 'newline' (getD s 1 0))) ≡ false = ap (and (is 'carriage-return' c)) (sym (look s)) ∙ h in
-        rw q (i (further-nowhere (doubleReturn s) e))
+none-found (c ∷ s) e =
+    let q : and (is 'carriage-return' c) (and (is 'carriage-return' (getD s 0 0)) (is 'newline' (getD s 1 0))) ≡ false = ap (and (is 'carriage-return' c)) (sym (look s)) ∙ none-here c s e in
+    rw q (none-found s (none-further c s e))
 
 none-double : (s : List ℕ) → noDouble s ≡ true → doubleReturn s ≡ nowhere
 unfolding find

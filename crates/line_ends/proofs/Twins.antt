@@ -3,38 +3,12 @@ use Prim.Native.Nat.{ℕ}
 use mathlib.Core.Path.{_≡_, refl, ap}
 use mathlib.Core.List.{List, _∷_}
 use mathlib.Core.Bool.{Bool, true, false}
-use Rattle.basics.specs.Choice.{pick, and}
-use Rattle.eaters.specs.Find.{Place, at, nowhere, further, find}
+use Rattle.basics.specs.Choice.{and}
+use Rattle.eaters.specs.Find.{nowhere}
 use Rattle.token.specs.Names.{is, 'newline', 'carriage-return'}
-use Rattle.canon.proofs.Sounds.{false-true}
-use Rattle.line_ends.specs.LineEnds.{crLf, replaced, doubleAt, doubleReturn}
+use Rattle.line_ends.specs.LineEnds.{crLf, replaced, doubleReturn}
+use Rattle.line_ends.proofs.Replaced.{none-here, none-further}
 use Rattle.line_ends.specs.Twins.{Twins, none, same, former, latter}
-
-isNowhere : Place → Bool
-isNowhere nowhere = true
-isNowhere (at k) = false
-
--- none here, and none further on
-further-none : (q : Place) → further q ≡ nowhere → q ≡ nowhere
-unfolding isNowhere
-further-none nowhere e = refl
-further-none (at k) e = false-true (ap isNowhere e)
-
-none-here : (c : ℕ) (s : List ℕ) → doubleReturn (c ∷ s) ≡ nowhere → doubleAt (c ∷ s) ≡ false
-unfolding find isNowhere
-none-here c s e = go (doubleAt (c ∷ s)) e
-  where
-    go : (t : Bool) → pick t (at 0) (further (doubleReturn s)) ≡ nowhere → t ≡ false
-    go true e = false-true (ap isNowhere e)
-    go false e = refl
-
-none-further : (c : ℕ) (s : List ℕ) → doubleReturn (c ∷ s) ≡ nowhere → doubleReturn s ≡ nowhere
-unfolding find isNowhere
-none-further c s e = go (doubleAt (c ∷ s)) e
-  where
-    go : (t : Bool) → pick t (at 0) (further (doubleReturn s)) ≡ nowhere → doubleReturn s ≡ nowhere
-    go true e = false-true (ap isNowhere e)
-    go false e = further-none (doubleReturn s) e
 
 -- a CR right before CR LF is CR CR LF
 before-pair : (c : ℕ) (s : List ℕ) → doubleReturn (c ∷ 'carriage-return' ∷ 'newline' ∷ s) ≡ nowhere → is 'carriage-return' c ≡ false

@@ -1,4 +1,5 @@
--- Line ends (document 02, W3; the Rust Reference, "Input format": each CR LF is replaced by LF before tokens are read), of bytes or of characters alike.
+-- Line ends (document 02, W3; the Rust Reference, "Input format", "CRLF normalization"), of bytes or of characters alike: each CR LF is replaced by LF before
+-- tokens are read, once; a CR alone stays.
 use Prim.Native.Nat.{ℕ}
 use mathlib.Core.List.{List, [], _∷_}
 use mathlib.Core.Bool.{Bool, true, not}
@@ -12,12 +13,12 @@ use Rattle.token.specs.Names.{is, 'newline', 'carriage-return'}
 abbrev pub crLf : (c : ℕ) (after : List ℕ) → Bool
 crLf c after = and (is 'carriage-return' c) (is 'newline' (getD after 0 0))
 
--- THE REPLACED TEXT: from the left, of each CR LF only the LF stays
+-- THE REPLACED TEXT: from the left, each byte used once, of each CR LF only the LF stays. What is left is not looked at again: CR CR LF becomes CR LF
 abbrev pub replaced : List ℕ → List ℕ
 replaced [] = []
 replaced (c ∷ cs) = pick (crLf c cs) (replaced cs) (c ∷ replaced cs)
 
--- no CR LF is there
+-- no CR LF is there: what the laws say of keys
 abbrev pub noCrLf : List ℕ → Bool
 noCrLf [] = true
 noCrLf (c ∷ cs) = and (not (crLf c cs)) (noCrLf cs)
