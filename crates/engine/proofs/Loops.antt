@@ -4,7 +4,7 @@ use mathlib.Core.Path.{_≡_, refl, sym, ap, subst, _∙_}
 use mathlib.Core.Bool.{Bool, true, false}
 use mathlib.Core.List.{List, [], _∷_, _++_, append-assoc, append-nil}
 use lib.ListN.{length, take, drop, length-drop, length-append}
-use lib.Seq.{drop-drop, take-at}
+use lib.Seq.{take-at}
 use native.Mathlib.Omega.{arith}
 use Rattle.basics.specs.Choice.{pick}
 use Rattle.refusal.specs.declared.Cause.{Cause}
@@ -13,7 +13,8 @@ use Rattle.text.specs.declared.Decoded.the-variants.{Char, End, Ill}
 use Rattle.text.specs.Utf8.{decoded}
 use Rattle.text.specs.Chars.{chars, size, width, encode, encodeOne}
 use Rattle.text.proofs.Coding.{Fact, length-encodeOne}
-use Rattle.text.proofs.Texts.{stepped, told, length-encode, size-chars}
+use Rattle.text.proofs.Texts.{told, length-encode, size-chars}
+use Rattle.text.proofs.Places.{char-chars, end-chars, ill-chars}
 use Rattle.token.specs.Lists.{Lists, lent}
 use Rattle.line_ends.specs.LineEnds.{crLf, replaced}
 use Rattle.canon.proofs.Spelling.{encode-append}
@@ -67,7 +68,7 @@ here text i c w e q =
     let l : length (encodeOne c) ≡ w = length-encodeOne c ∙ f .wide in
     record {
       fact = f;
-      after = stepped (drop i text) (sym e ∙ q) ∙ ap (λ (l : List ℕ). c ∷ chars l) (drop-drop w i text);
+      after = char-chars text i e q;
       within = omega (arith, f .room, f .some, length-drop i text);
       spelt = ap (take w) (sym (f .coded)) ∙ take-at (encodeOne c) (drop w (drop i text)) w l ∙ encode-one c;
     }
@@ -171,10 +172,10 @@ module _ (w : Bool) (L : Lists) (s : State) (text o : List ℕ) (i : ℕ) (mode 
       }
 
   pub upto-end : {r : Decoded} → r ≡ decoded (drop i text) → r ≡ End → Fed w L s text o out (record { mode = mode; from = from; at = at; n = n })
-  upto-end p q = over (stepped (drop i text) (sym p ∙ q))
+  upto-end p q = over (end-chars text i p q)
 
   pub upto-ill : {r : Decoded} {k : Cause} → r ≡ decoded (drop i text) → r ≡ Ill k → Fed w L s text o out (record { mode = mode; from = from; at = at; n = n })
-  upto-ill p q = over (stepped (drop i text) (sym p ∙ q))
+  upto-ill p q = over (ill-chars text i p q)
 
   pub upto-long : length out ≡ length o
   upto-long = laid-length (u .laid)

@@ -14,7 +14,7 @@ use Rattle.text.specs.declared.Decoded.the-variants.{Char, End, Ill}
 use Rattle.refusal.specs.declared.Cause.{Cause}
 use Rattle.text.specs.Utf8.{decoded}
 use Rattle.text.specs.Chars.{chars}
-use Rattle.text.proofs.Texts.{stepped}
+use Rattle.text.proofs.Places.{char-chars, end-chars, ill-chars}
 use Rattle.eaters.specs.Find.{Place, at, nowhere, further, find}
 use Rattle.line_ends.specs.declared.Found.the-variants.{At, Nowhere}
 use Rattle.line_ends.specs.LineEnds.{crLf, doubleAt, doubleReturn}
@@ -23,13 +23,13 @@ use Rattle.line_ends.specs.Found.{foundAt}
 -- AFTER A CR: the next character is LF or not
 module _ (s : List ℕ) (next : ℕ) {c : ℕ} where
   pub lf-char : {r : Decoded} {d w : ℕ} → c ≡ 13 → r ≡ decoded (drop next s) → r ≡ Char d w → eqb d 10 ≡ crLf c (chars (drop next s))
-  lf-char e q z = rw (e, stepped (drop next s) (sym q ∙ z))
+  lf-char e q z = rw (e, char-chars s next q z)
 
   pub lf-end : {r : Decoded} → c ≡ 13 → r ≡ decoded (drop next s) → r ≡ End → false ≡ crLf c (chars (drop next s))
-  lf-end e q z = rw (e, stepped (drop next s) (sym q ∙ z))
+  lf-end e q z = rw (e, end-chars s next q z)
 
   pub lf-ill : {r : Decoded} {k : Cause} → c ≡ 13 → r ≡ decoded (drop next s) → r ≡ Ill k → false ≡ crLf c (chars (drop next s))
-  lf-ill e q z = rw (e, stepped (drop next s) (sym q ∙ z))
+  lf-ill e q z = rw (e, ill-chars s next q z)
 
   pub lf-none : (c ≡ 13 → ⊥) → false ≡ crLf c (chars (drop next s))
   lf-none n = rw (ne-eqb c 13 n)
