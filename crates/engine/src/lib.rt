@@ -123,24 +123,25 @@ pub struct Ran {
     pub n: usize,
 }
 
-// A RUN OF BYTES, from a state of the machine on. It ends at an ill-formed sequence, as its characters do.
+// A RUN OF BYTES, from a state of the machine on: a mode, where the token begun stands, and the place reached. It ends at an ill-formed sequence, as its
+// characters do.
 pub fn run(
     writing: bool,
-    mode: Mode,
-    from: usize,
-    at: usize,
+    start: Mode,
+    began: usize,
+    place: usize,
     text: &[u8],
     starts: &[u32],
     continues: &[u32],
     emoji: &[u32],
     out: &mut [u8],
 ) -> Ran
-    requires { ⌜ Feeding writing (state mode from at) (now text) (now starts) (now continues) (now emoji) (now out) ⌝ }
-    ensures { λ r. ⌜ Fed writing (lent (now (starts .entry)) (now (continues .entry)) (now (emoji .entry))) (state mode from at) (now (text .entry)) (now (out .entry)) (now (out .exit)) r ⌝ }
+    requires { ⌜ Feeding writing (state start began place) (now text) (now starts) (now continues) (now emoji) (now out) ⌝ }
+    ensures { λ r. ⌜ Fed writing (lent (now (starts .entry)) (now (continues .entry)) (now (emoji .entry))) (state start began place) (now (text .entry)) (now (out .entry)) (now (out .exit)) r ⌝ }
 {
-    let mut now_mode = mode;
-    let mut now_from = from;
-    let mut now_at = at;
+    let mut mode = start;
+    let mut from = began;
+    let mut at = place;
     let mut i: usize = 0;
     let mut n: usize = 0;
     loop {
@@ -153,9 +154,9 @@ pub fn run(
                 }
                 let kept = feed_char(
                     writing,
-                    now_mode,
-                    now_from,
-                    now_at,
+                    mode,
+                    from,
+                    at,
                     c,
                     text,
                     i,
@@ -166,23 +167,17 @@ pub fn run(
                     out,
                     n,
                 );
-                let after = kept.mode;
-                now_mode = after;
-                now_from = kept.from;
+                mode = kept.mode;
+                from = kept.from;
                 n = kept.n;
-                now_at += w;
+                at += w;
                 i = next;
             }
             Decoded::End => break,
             Decoded::Ill(_) => break,
         }
     }
-    Ran {
-        mode: now_mode,
-        from: now_from,
-        at: now_at,
-        n,
-    }
+    Ran { mode, from, at, n }
 }
 
 // What the end of a text does: what was held back is still to be written, or the token begun is broken.

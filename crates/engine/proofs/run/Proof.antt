@@ -9,11 +9,11 @@ use Rattle.engine.proofs.run.Statement.{statement}
 use Rattle.engine.proofs.run.Tie as tie
 
 abbrev Inv-loop : tie.InvT-loop
-Inv-loop writing from at text starts continues emoji out₀ now-mode₀ now-from₀ now-at₀ i₀ n₀ out now-mode now-from now-at i n =
-    Upto writing (lent starts continues emoji) (state now-mode₀ from at) text out₀ i now-mode now-from now-at out n
+Inv-loop writing began place text starts continues emoji out₀ mode₀ from₀ at₀ i₀ n₀ out mode from at i n =
+    Upto writing (lent starts continues emoji) (state mode₀ began place) text out₀ i mode from at out n
 
 abbrev μ-loop : tie.MeasureT-loop
-μ-loop writing from at text starts continues emoji out₀ now-mode₀ now-from₀ now-at₀ i₀ n₀ out now-mode now-from now-at i n =
+μ-loop writing began place text starts continues emoji out₀ mode₀ from₀ at₀ i₀ n₀ out mode from at i n =
     length text - i
 
 loop-holds : tie.Need-loop-holds Inv-loop μ-loop
@@ -40,8 +40,8 @@ loop-again c = search on-cr
 feed-char-requires : tie.Need-feed-char-requires Inv-loop μ-loop
 feed-char-requires c κs = search on-char
 
-add-now-at : tie.Need-add-now-at Inv-loop μ-loop
-add-now-at c = search at-fits
+add-at : tie.Need-add-at Inv-loop μ-loop
+add-at c = search at-fits
 
 loop-less-2 : tie.Need-loop-less-2 Inv-loop μ-loop
 loop-less-2 c = search fewer
@@ -81,7 +81,7 @@ run-spec =
     loop-less
     loop-again
     feed-char-requires
-    add-now-at
+    add-at
     loop-less-2
     loop-again-2
     enum-told
