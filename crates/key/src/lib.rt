@@ -1,20 +1,21 @@
-// The key of a text (document 01, "The key"; document 02, W3), put into a lent buffer. It is the key of the replaced text, in which each CR LF is LF. Every
+// The key of a text (document 01, "The key"; document 02, W3 and W6), put into a lent buffer. It is the key of the replaced text, in which each CR LF is LF. Every
 // refusal is found, and the key is measured, before the first byte is written; each pass reads each byte of the text a fixed number of times.
 ghost use mathlib.Core.Path.{_≡_};
 ghost use Rattle.token.specs.Lists.{lent};
 ghost use Rattle.lexer.specs.Checked.{Checked};
 ghost use Rattle.key.specs.Answers.{keyNumbers, CheckedKeying, Keying};
 use engine::Need;
-use line_ends::Found;
+use places::Found;
 use refusal::Bad;
 use refusal::Numbers;
 use refusal::Verdict;
 
-// What the key call says: done, with the key's bytes; CR CR LF (10), with the place of the first in the text; a broken token (6), with the start of the
-// first in the replaced text; fewer bytes than the key has (7), with the bytes that it has; or a refusal (1, 3, 2).
+// What the key call says: done, with the key's bytes; CR CR LF (10), with the place of the first in the text; a hidden direction mark (11), likewise; a
+// broken token (6), with the start of the first in the replaced text; fewer bytes than the key has (7), with the bytes that it has; or a refusal (1, 3, 2).
 pub enum KeyAnswer {
     Keyed(usize),
     DoubleReturn(usize),
+    HiddenMark(usize),
     Broken(usize),
     Room(usize),
     Refused(Bad),
@@ -35,6 +36,11 @@ pub fn key_numbers(answer: KeyAnswer) -> Numbers
             beside: at,
             second: 0,
         },
+        KeyAnswer::HiddenMark(at) => Numbers {
+            number: 11,
+            beside: at,
+            second: 0,
+        },
         KeyAnswer::Broken(at) => Numbers {
             number: 6,
             beside: at,
@@ -49,7 +55,7 @@ pub fn key_numbers(answer: KeyAnswer) -> Numbers
     }
 }
 
-// The key of a text that was checked, and in which CR CR LF stands nowhere: refusals 6 and 7 in this order, or the key.
+// The key of a text that was checked, and in which no CR CR LF and no hidden mark stands: refusals 6 and 7 in this order, or the key.
 fn checked_key(
     text: &[u8],
     starts: &[u32],
@@ -72,7 +78,7 @@ fn checked_key(
     }
 }
 
-// PUBLIC. The key of a text, in the first bytes of a lent buffer. Refusals 1, 3, 2, 10, 6 and 7 in this order; none of them writes a byte.
+// PUBLIC. The key of a text, in the first bytes of a lent buffer. Refusals 1, 3, 2, 10, 11, 6 and 7 in this order; none of them writes a byte.
 pub fn key(
     text: &[u8],
     starts: &[u32],
@@ -87,6 +93,9 @@ pub fn key(
     }
     if let Found::At(at) = line_ends::double_return(text) {
         return KeyAnswer::DoubleReturn(at);
+    }
+    if let Found::At(at) = marks::hidden_mark(text) {
+        return KeyAnswer::HiddenMark(at);
     }
     checked_key(text, starts, continues, emoji, out)
 }

@@ -1,7 +1,7 @@
 -- Document 01, "Nothing left open": two answers that a promise allows for the same arguments are the same.
 use mathlib.Core.Path.{_≡_, sym, _∙_}
 use mathlib.Core.Bool.{Bool}
-use Rattle.line_ends.specs.declared.Found.{Found}
+use Rattle.places.specs.declared.Found.{Found}
 use Rattle.line_ends.proofs.is_cr_lf.Reads as is-cr-lf
 use Rattle.line_ends.proofs.double_return.Reads as double-return
 

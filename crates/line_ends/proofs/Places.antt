@@ -16,9 +16,9 @@ use Rattle.text.specs.Utf8.{decoded}
 use Rattle.text.specs.Chars.{chars}
 use Rattle.text.proofs.Places.{char-chars, end-chars, ill-chars}
 use Rattle.eaters.specs.Find.{Place, at, nowhere, further, find}
-use Rattle.line_ends.specs.declared.Found.the-variants.{At, Nowhere}
+use Rattle.places.specs.declared.Found.the-variants.{At, Nowhere}
 use Rattle.line_ends.specs.LineEnds.{crLf, doubleAt, doubleReturn}
-use Rattle.line_ends.specs.Found.{foundAt}
+use Rattle.places.specs.Found.{foundAt}
 
 -- AFTER A CR: the next character is LF or not
 module _ (s : List ℕ) (next : ℕ) {c : ℕ} where

@@ -1,3 +1,2 @@
 pub mod LineEnds
-pub mod Found
 pub mod Twins

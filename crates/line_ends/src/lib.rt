@@ -4,7 +4,8 @@ ghost use Prim.Native.Nat.{_+_, _<_};
 ghost use lib.ListN.{length, drop};
 ghost use Rattle.text.specs.Chars.{chars};
 ghost use Rattle.line_ends.specs.LineEnds.{crLf, doubleAt, doubleReturn};
-ghost use Rattle.line_ends.specs.Found.{foundAt};
+ghost use Rattle.places.specs.Found.{foundAt};
+use places::Found;
 use text::CodePoint;
 use text::Decoded;
 
@@ -20,12 +21,6 @@ pub fn is_cr_lf(text: &[u8], c: CodePoint, next: usize) -> bool
         };
     }
     false
-}
-
-// Where something stands, if it does.
-pub enum Found {
-    At(usize),
-    Nowhere,
 }
 
 // Whether CR CR LF stands at a place.

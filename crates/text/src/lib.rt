@@ -185,7 +185,7 @@ pub fn check_length(text: &[u8]) -> Verdict
 
 // Whether the next eight bytes are there and all of them are ASCII: joined, they are asked at once. It looks at every eighth position alone,
 // so that a text of other letters pays little; where it says no, nothing is promised.
-fn eight_ascii(text: &[u8], at: usize) -> bool
+pub fn eight_ascii(text: &[u8], at: usize) -> bool
     requires { ⌜ at ≤ length (now text) ⌝ }
     ensures { λ r. ⌜ (r ≡ true → AsciiRun (now (text .entry)) at 8) ⌝ }
 {

@@ -1,7 +1,7 @@
 -- A place as the code says it.
 use Rattle.eaters.specs.Find.{Place, at, nowhere}
-use Rattle.line_ends.specs.declared.Found.{Found}
-use Rattle.line_ends.specs.declared.Found.the-variants.{At, Nowhere}
+use Rattle.places.specs.declared.Found.{Found}
+use Rattle.places.specs.declared.Found.the-variants.{At, Nowhere}
 
 abbrev pub foundAt : Place → Found
 foundAt (at k) = At k
