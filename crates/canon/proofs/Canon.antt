@@ -23,7 +23,7 @@ pub key-well : (L : Lists) (s : List ℕ) → WellFormed (keyOf L s)
 key-well L s = rw (key-encode L s) (well-encode (key-scalars L s))
 
 -- its characters
-key-chars : (L : Lists) (s : List ℕ) → chars (keyOf L s) ≡ written (items (tokens L false (chars s)))
+pub key-chars : (L : Lists) (s : List ℕ) → chars (keyOf L s) ≡ written (items (tokens L false (chars s)))
 key-chars L s = ap chars (key-encode L s) ∙ chars-encode (key-scalars L s)
 
 -- THE TOKENS OF A KEY are the meaningful tokens of the text, each with its kind and its bytes, and one newline of whitespace for each longest run

@@ -66,6 +66,27 @@ meaning-chars L s = meaning-said L s ∙ ap itemsSaid (said-records L false s) �
 pub key-encode : (L : Lists) (s : List ℕ) → keyOf L s ≡ encode (written (items (tokens L false (chars s))))
 key-encode L s = ap written (meaning-chars L s) ∙ written-encode (items (tokens L false (chars s)))
 
+-- THE CHARACTERS OF A KEY ARE ITS TEXT'S AND NEWLINES: what holds of a text's characters, of each part of them, of two parts joined and of a newline put before,
+-- holds of its key's
+module _ (P : List ℕ → Type 0) (none : P []) (front : (u a : List ℕ) → P (u ++ a) → P u) (rest : (u a : List ℕ) → P (u ++ a) → P a) (join : (u a : List ℕ) → P u → P a → P (u ++ a))
+    (newline : {cs : List ℕ} → P cs → P ('newline' ∷ cs))
+  where
+    gap-kept : (m : List Item) → P (written m) → P (written (gapBefore m))
+    gap-kept [] h = newline h
+    gap-kept (gap ∷ is) h = h
+    gap-kept (meant k cs ∷ is) h = newline h
+
+    items-kept : (ts : List Piece) → P (texts ts) → P (written (items ts))
+    items-kept [] h = none
+    items-kept (t ∷ ts) h = go (isTrivia (t .kind)) (items-kept ts (rest (t .text) (texts ts) h))
+      where
+        go : (s : Bool) → P (written (items ts)) → P (written (pick s (gapBefore (items ts)) (meant (t .kind) (t .text) ∷ items ts)))
+        go true i = gap-kept (items ts) i
+        go false i = join (t .text) (written (items ts)) (front (t .text) (texts ts) h) i
+
+    pub kept-in-key : (L : Lists) (s : List ℕ) → P (chars s) → P (written (items (tokens L false (chars s))))
+    kept-in-key L s h = items-kept (tokens L false (chars s)) (subst P (sym (cover L false (chars s))) h)
+
 -- which are scalar values
 front : (u a : List ℕ) → Scalars (u ++ a) → Scalars u
 front [] a h = nil
@@ -82,21 +103,8 @@ join (c ∷ u) a (cons p h) k = cons p (join u a h k)
 newline-scalar : {cs : List ℕ} → Scalars cs → Scalars ('newline' ∷ cs)
 newline-scalar h = cons {c = 'newline'} (inl (omega arith)) h
 
-gap-scalars : (m : List Item) → Scalars (written m) → Scalars (written (gapBefore m))
-gap-scalars [] h = newline-scalar h
-gap-scalars (gap ∷ is) h = h
-gap-scalars (meant k cs ∷ is) h = newline-scalar h
-
-item-scalars : (ts : List Piece) → Scalars (texts ts) → Scalars (written (items ts))
-item-scalars [] h = nil
-item-scalars (t ∷ ts) h = go (isTrivia (t .kind)) (item-scalars ts (rest (t .text) (texts ts) h))
-  where
-    go : (s : Bool) → Scalars (written (items ts)) → Scalars (written (pick s (gapBefore (items ts)) (meant (t .kind) (t .text) ∷ items ts)))
-    go true i = gap-scalars (items ts) i
-    go false i = join (t .text) (written (items ts)) (front (t .text) (texts ts) h) i
-
 pub key-scalars : (L : Lists) (s : List ℕ) → Scalars (written (items (tokens L false (chars s))))
-key-scalars L s = item-scalars (tokens L false (chars s)) (subst (λ (l : List ℕ). Scalars l) (sym (cover L false (chars s))) (scalars s))
+key-scalars L s = kept-in-key (λ (l : List ℕ). Scalars l) nil front rest join (λ h. newline-scalar h) L s (scalars s)
 
 -- what items are spelled as has those items again
 spelled-gap : (m : List Item) → itemsSaid (spelled m) ≡ m → itemsSaid (spelled (gapBefore m)) ≡ gapBefore m

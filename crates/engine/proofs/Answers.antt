@@ -5,9 +5,9 @@ use mathlib.Core.List.{List}
 use Prim.Native.Nat.{ℕ}
 use Rattle.token.specs.Lists.{Lists}
 use Rattle.engine.specs.declared.Need.{Need}
-use Rattle.engine.specs.Wholes.{Keyed}
+use Rattle.engine.specs.Wholes.{KeyMade}
 
-module _ {writing : Bool} {L : Lists} {s before after later : List ℕ} {r q : Need} (f : Keyed writing L s before after r) (g : Keyed writing L s before later q) where
+module _ {writing : Bool} {L : Lists} {s before after later : List ℕ} {r q : Need} (f : KeyMade writing L s before after r) (g : KeyMade writing L s before later q) where
   pub one-need : r ≡ q
   one-need = f .need ∙ sym (g .need)
 

@@ -34,7 +34,7 @@ use Rattle.engine.specs.declared.Ran.{Ran}
 use Rattle.engine.specs.Laid.{Laid, Room}
 use Rattle.engine.specs.Runs.{state, fedBy, Feeding, Fed}
 use Rattle.engine.specs.Ends.{endResult, Ends}
-use Rattle.engine.specs.Wholes.{needFor, Keying, Keyed}
+use Rattle.engine.specs.Wholes.{needFor, KeyReady, KeyMade}
 use Rattle.engine.proofs.Lays.{laid-then, laid-length, before-few}
 use Rattle.engine.proofs.Feeds.{plain-before}
 use Rattle.engine.proofs.Loops.{fed-few}
@@ -107,7 +107,7 @@ first : (o xs : List ℕ) → laid o 0 xs ≡ xs ++ drop (length xs) o
 unfolding laid
 first o xs = let z : 0 + length xs ≡ length xs = omega arith in ap (λ (k : ℕ). xs ++ drop k o) z
 
-pub whole-feeds : (w : Bool) (a b e text o : List ℕ) → Keying w text a b e o → Feeding w beginning text a b e o
+pub whole-feeds : (w : Bool) (a b e text o : List ℕ) → KeyReady w text a b e o → Feeding w beginning text a b e o
 whole-feeds w a b e text o k =
     let F : stream.Fed State = fedBy (lent a b e) beginning text in
     record {
@@ -119,7 +119,7 @@ whole-feeds w a b e text o k =
       room = λ t. omega (arith, part (lent a b e) text (k .well) (finish (F .state .from) (F .state .mode)) (told (lent a b e) text (k .well)) (k .whole t), k .room t);
     }
 
-module _ (w : Bool) (a b e text o mid : List ℕ) (k : Keying w text a b e o) {r : Ran} (f : Fed w (lent a b e) beginning text o mid r) {m : Mode} (q : m ≡ r .mode) {x : End} (d : Ends m x) where
+module _ (w : Bool) (a b e text o mid : List ℕ) (k : KeyReady w text a b e o) {r : Ran} (f : Fed w (lent a b e) beginning text o mid r) {m : Mode} (q : m ≡ r .mode) {x : End} (d : Ends m x) where
   same : fedBy (lent a b e) beginning text .state ≡ state m (r .from) (r .at)
   same = f .state ∙ ap (λ (z : Mode). state z (r .from) (r .at)) (sym q)
 
@@ -131,14 +131,14 @@ module _ (w : Bool) (a b e text o mid : List ℕ) (k : Keying w text a b e o) {r
         room = λ t. omega (arith, ap length y, length-append (encode (fedBy (lent a b e) beginning text .out)) (beforeOut u), f .laid .next, k .room t, laid-length (f .laid));
       }
 
-  pub whole-keyed : {u : Before} {after : List ℕ} {n : ℕ} → x ≡ Rest u → Laid w (beforeOut u) mid (r .n) after n → Keyed w (lent a b e) text o after (Bytes n)
+  pub whole-keyed : {u : Before} {after : List ℕ} {n : ℕ} → x ≡ Rest u → Laid w (beforeOut u) mid (r .n) after n → KeyMade w (lent a b e) text o after (Bytes n)
   whole-keyed {u} {after} {n} z l =
       let y = rest-key (lent a b e) text (k .well) same d z in
       let v : Laid w (keyOf (lent a b e) (replaced text)) o 0 after n = subst (λ (t : List ℕ). Laid w t o 0 after n) (y .1) (laid-then (f .laid) l) in
       let j : n ≡ length (keyOf (lent a b e) (replaced text)) = omega (arith, v .next) in
       record { need = ap Bytes j ∙ ap (λ (p : Place). needFor p (length (keyOf (lent a b e) (replaced text)))) (sym (y .0)); holds = v .holds ∙ ap (λ (t : List ℕ). pick w t o) (first o (keyOf (lent a b e) (replaced text))) }
 
-  pub whole-broken : x ≡ Broken → Keyed w (lent a b e) text o mid (Mending (r .from))
+  pub whole-broken : x ≡ Broken → KeyMade w (lent a b e) text o mid (Mending (r .from))
   whole-broken z =
       let y = broken-key (lent a b e) text (k .well) same d z in
       record { need = whole-bad (keyOf (lent a b e) (replaced text)) (brokenAt (lent a b e) (replaced text)) (length (keyOf (lent a b e) (replaced text))) y; holds = none w refl }

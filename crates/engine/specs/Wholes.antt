@@ -25,7 +25,7 @@ abbrev pub needOf : Lists → (s : List ℕ) → Need
 needOf L s = needFor (brokenAt L s) (length (keyOf L s))
 
 -- the text is UTF-8 within the limit, the lists are good; and where the key is to be written, there is one, and room for it
-pub record Keying (writing : Bool) (text starts continues emoji out : List ℕ) : Type 0 where
+pub record KeyReady (writing : Bool) (text starts continues emoji out : List ℕ) : Type 0 where
   pub fits : length text ≤ 4294967295
   pub well : WellFormed text
   pub starts-good : Good starts
@@ -35,6 +35,6 @@ pub record Keying (writing : Bool) (text starts continues emoji out : List ℕ) 
   pub room : writing ≡ true → length (keyOf (lent starts continues emoji) (replaced text)) ≤ length out
 
 -- WHAT THE KEY OF THE REPLACED TEXT NEEDS; and where it is to be written, it is in the buffer's first bytes, and the rest is as it was
-pub record Keyed (writing : Bool) (L : Lists) (text out after : List ℕ) (r : Need) : Type 0 where
+pub record KeyMade (writing : Bool) (L : Lists) (text out after : List ℕ) (r : Need) : Type 0 where
   pub need : r ≡ needOf L (replaced text)
   pub holds : after ≡ pick writing (keyOf L (replaced text) ++ drop (length (keyOf L (replaced text))) out) out

@@ -10,7 +10,7 @@ ghost use Rattle.engine.specs.Laid.{Laid, Room};
 ghost use Rattle.engine.specs.Chars.{stepBytes, Laying, CharFeeding, CharFed};
 ghost use Rattle.engine.specs.Runs.{state, Feeding, Fed};
 ghost use Rattle.engine.specs.Ends.{Ends};
-ghost use Rattle.engine.specs.Wholes.{Keying, Keyed};
+ghost use Rattle.engine.specs.Wholes.{KeyReady, KeyMade};
 use machine::Mode;
 use text::CodePoint;
 use text::Decoded;
@@ -235,8 +235,8 @@ pub fn whole(
     emoji: &[u32],
     out: &mut [u8],
 ) -> Need
-    requires { ⌜ Keying writing (now text) (now starts) (now continues) (now emoji) (now out) ⌝ }
-    ensures { λ r. ⌜ Keyed writing (lent (now (starts .entry)) (now (continues .entry)) (now (emoji .entry))) (now (text .entry)) (now (out .entry)) (now (out .exit)) r ⌝ }
+    requires { ⌜ KeyReady writing (now text) (now starts) (now continues) (now emoji) (now out) ⌝ }
+    ensures { λ r. ⌜ KeyMade writing (lent (now (starts .entry)) (now (continues .entry)) (now (emoji .entry))) (now (text .entry)) (now (out .entry)) (now (out .exit)) r ⌝ }
 {
     let begin = Mode::Start { gap: false };
     let ran = run(writing, begin, 0, 0, text, starts, continues, emoji, out);

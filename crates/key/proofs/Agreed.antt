@@ -33,7 +33,7 @@ agreed-keys {limit} {s} {t} {L} j k =
     let a = agree-is L (replaced s) (replaced t) in
     ((λ e. a .1 (c .0 e)), (λ x. c .1 (a .0 x)))
 
--- TWO VALID TEXTS without CR CR LF and with no broken token, the same valid lists, and room for each key: both calls answer `Keyed` with their key's bytes, and they wrote the same
+-- TWO VALID TEXTS without CR CR LF, hidden marks and broken tokens, the same valid lists, and room for each key: both calls answer `Keyed` with their key's bytes, and they wrote the same
 -- bytes exactly when the replaced texts agree
 module _ {limit : ℕ} {s t : List ℕ} {L : Lists} {before after before′ after′ : List ℕ} {r q : KeyAnswer} (a : HasKey limit s L before) (b : HasKey limit t L before′) (j : Keying limit s L before after r) (k : Keying limit t L before′ after′ q) where
   pub both-keyed : (r ≡ Keyed (length (keyOf L (replaced s)))) × (q ≡ Keyed (length (keyOf L (replaced t))))

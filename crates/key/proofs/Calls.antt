@@ -15,10 +15,12 @@ use Rattle.refusal.specs.Order.{refusedOr}
 use Rattle.token.specs.Lists.{Lists, lent}
 use Rattle.lexer.specs.Answers.{tokenVerdict}
 use Rattle.lexer.specs.Checked.{Checked}
-use Rattle.line_ends.specs.declared.Found.{Found}
-use Rattle.line_ends.specs.declared.Found.the-variants.{At, Nowhere}
+use Rattle.places.specs.declared.Found.{Found}
+use Rattle.places.specs.declared.Found.the-variants.{At, Nowhere}
+use Rattle.places.specs.Found.{foundAt}
+use Rattle.places.proofs.Found.{found-at, found-nowhere}
 use Rattle.line_ends.specs.LineEnds.{replaced, doubleReturn}
-use Rattle.line_ends.specs.Found.{foundAt}
+use Rattle.marks.specs.Marks.{hiddenMark}
 use Rattle.canon.specs.Keyable.{brokenAt}
 use Rattle.canon.specs.Key.{keyOf}
 use Rattle.canon.proofs.Sounds.{false-true}
@@ -27,8 +29,8 @@ use Rattle.engine.specs.declared.Need.the-variants.{Bytes, Mending}
 use Rattle.engine.specs.Wholes as whole
 use Rattle.engine.specs.Wholes.{needFor}
 use Rattle.key.specs.declared.KeyAnswer.{KeyAnswer}
-use Rattle.key.specs.declared.KeyAnswer.the-variants.{Keyed, DoubleReturn, Broken, Room, Refused}
-use Rattle.key.specs.Answers.{roomed, unbroken, single, checkedAnswer, keyAnswer, CheckedKeying, Keying, keyNumbers}
+use Rattle.key.specs.declared.KeyAnswer.the-variants.{Keyed, DoubleReturn, HiddenMark, Broken, Room, Refused}
+use Rattle.key.specs.Answers.{roomed, unbroken, unmarked, undoubled, checkedAnswer, keyAnswer, CheckedKeying, Keying, keyNumbers}
 
 -- BY NUMBER, at a case
 pub numbers-at : {x y : KeyAnswer} → x ≡ y → keyNumbers y ≡ keyNumbers x
@@ -55,23 +57,6 @@ bytes-needed : (p : Place) (n m : ℕ) → needFor p n ≡ Bytes m → (p ≡ no
 bytes-needed (at start) n m e = absurd (true≢false (sym (ap isBytes e)))
 bytes-needed nowhere n m e = (refl, ap bytesIn e)
 
--- by where CR CR LF is found
-abbrev isAt : Found → Bool
-isAt (At k) = true
-isAt Nowhere = false
-
-abbrev placeIn : Found → ℕ
-placeIn (At k) = k
-placeIn Nowhere = 0
-
-found-at : (p : Place) (k : ℕ) → foundAt p ≡ At k → p ≡ at k
-found-at (at j) k e = ap at (ap placeIn e)
-found-at nowhere k e = absurd (true≢false (sym (ap isAt e)))
-
-found-nowhere : (p : Place) → foundAt p ≡ Nowhere → p ≡ nowhere
-found-nowhere (at j) e = absurd (true≢false (ap isAt e))
-found-nowhere nowhere e = refl
-
 -- AFTER THE CHECKS
 module _ (s a b e before : List ℕ) (checked : Checked s (lent a b e)) where
   abbrev key : List ℕ
@@ -80,11 +65,11 @@ module _ (s a b e before : List ℕ) (checked : Checked s (lent a b e)) where
   abbrev broken : Place
   broken = brokenAt (lent a b e) (replaced s)
 
-  pub measure-ready : whole.Keying false s a b e before
+  pub measure-ready : whole.KeyReady false s a b e before
   measure-ready =
       record { fits = checked .fits; well = checked .well; starts-good = checked .starts; continues-good = checked .continues; emoji-good = checked .emoji; whole = λ t. false-true t; room = λ t. false-true t }
 
-  module _ {mid : List ℕ} {need : Need} (w : whole.Keyed false (lent a b e) s before mid need) where
+  module _ {mid : List ℕ} {need : Need} (w : whole.KeyMade false (lent a b e) s before mid need) where
     fine : answered need (length before) ≡ checkedAnswer s (lent a b e) (length before)
     fine = ap (λ (x : Need). answered x (length before)) (w .need) ∙ by-need broken (length key) (length before)
 
@@ -104,7 +89,7 @@ module _ (s a b e before : List ℕ) (checked : Checked s (lent a b e)) where
       pub room-in : length mid < m → CheckedKeying s (lent a b e) before mid (Room m)
       room-in l = record { answer = sym (ap (λ (t : Bool). pick t (Keyed m) (Room m)) (lt-leb m (length before) (omega (arith, same, l)))) ∙ roomy; holds = w .holds }
 
-      pub write-ready : m ≤ length mid → whole.Keying true s a b e mid
+      pub write-ready : m ≤ length mid → whole.KeyReady true s a b e mid
       write-ready l =
           record {
             fits = checked .fits;
@@ -116,7 +101,7 @@ module _ (s a b e before : List ℕ) (checked : Checked s (lent a b e)) where
             room = λ t. omega (arith, needed .1, l);
           }
 
-      pub keyed-in : {after : List ℕ} {again : Need} → m ≤ length mid → whole.Keyed true (lent a b e) s mid after again → CheckedKeying s (lent a b e) before after (Keyed m)
+      pub keyed-in : {after : List ℕ} {again : Need} → m ≤ length mid → whole.KeyMade true (lent a b e) s mid after again → CheckedKeying s (lent a b e) before after (Keyed m)
       keyed-in l x =
           record {
             answer = sym (ap (λ (t : Bool). pick t (Keyed m) (Room m)) (le-leb m (length before) (omega (arith, same, l)))) ∙ roomy;
@@ -125,16 +110,28 @@ module _ (s a b e before : List ℕ) (checked : Checked s (lent a b e)) where
 
 -- THE CHECKS
 module _ (limit : ℕ) (s : List ℕ) (L : Lists) (before : List ℕ) {v : Verdict} (d : v ≡ tokenVerdict limit s L) where
+  -- past the verdict: 10 and what comes after it
+  abbrev later : Place → KeyAnswer
+  later p = undoubled p (unmarked (hiddenMark s) (checkedAnswer s L (length before)))
+
   pub refused-in : {bad : Bad} → v ≡ verdict.Refused bad → Keying limit s L before before (Refused bad)
-  refused-in k = record { answer = ap (λ (u : Verdict). refusedOr Refused u (single (doubleReturn s) (checkedAnswer s L (length before)))) (sym k ∙ d); holds = refl }
+  refused-in k = record { answer = ap (λ (u : Verdict). refusedOr Refused u (later (doubleReturn s))) (sym k ∙ d); holds = refl }
 
   module _ (k : v ≡ verdict.Fine) {f : Found} (g : f ≡ foundAt (doubleReturn s)) where
-    past : single (doubleReturn s) (checkedAnswer s L (length before)) ≡ keyAnswer limit s L (length before)
-    past = ap (λ (u : Verdict). refusedOr Refused u (single (doubleReturn s) (checkedAnswer s L (length before)))) (sym k ∙ d)
+    past : later (doubleReturn s) ≡ keyAnswer limit s L (length before)
+    past = ap (λ (u : Verdict). refusedOr Refused u (later (doubleReturn s))) (sym k ∙ d)
 
     pub doubled-in : {place : ℕ} → f ≡ At place → Keying limit s L before before (DoubleReturn place)
-    doubled-in {place} h = record { answer = ap (λ (p : Place). single p (checkedAnswer s L (length before))) (sym (found-at (doubleReturn s) place (sym g ∙ h))) ∙ past; holds = refl }
+    doubled-in {place} h = record { answer = ap later (sym (found-at (doubleReturn s) place (sym g ∙ h))) ∙ past; holds = refl }
 
-    pub checked-in : {after : List ℕ} {r : KeyAnswer} → f ≡ Nowhere → CheckedKeying s L before after r → Keying limit s L before after r
-    checked-in h w =
-        record { answer = w .answer ∙ ap (λ (p : Place). single p (checkedAnswer s L (length before))) (sym (found-nowhere (doubleReturn s) (sym g ∙ h))) ∙ past; holds = w .holds }
+    module _ (h : f ≡ Nowhere) {m : Found} (q : m ≡ foundAt (hiddenMark s)) where
+      -- past CR CR LF: 11 and what comes after it
+      undouble : unmarked (hiddenMark s) (checkedAnswer s L (length before)) ≡ keyAnswer limit s L (length before)
+      undouble = ap later (sym (found-nowhere (doubleReturn s) (sym g ∙ h))) ∙ past
+
+      pub marked-in : {place : ℕ} → m ≡ At place → Keying limit s L before before (HiddenMark place)
+      marked-in {place} j = record { answer = ap (λ (p : Place). unmarked p (checkedAnswer s L (length before))) (sym (found-at (hiddenMark s) place (sym q ∙ j))) ∙ undouble; holds = refl }
+
+      pub checked-in : {after : List ℕ} {r : KeyAnswer} → m ≡ Nowhere → CheckedKeying s L before after r → Keying limit s L before after r
+      checked-in j w =
+          record { answer = w .answer ∙ ap (λ (p : Place). unmarked p (checkedAnswer s L (length before))) (sym (found-nowhere (hiddenMark s) (sym q ∙ j))) ∙ undouble; holds = w .holds }

@@ -20,7 +20,9 @@ use Rattle.canon.specs.Key.{keyOf}
 use Rattle.canon.specs.Fair.{Fair}
 use Rattle.canon.proofs.Short.{key-short}
 use Rattle.canon.proofs.Canon.{key-well, key-again, again-keyable, canonical}
-use Rattle.machine.proofs.LineEnds.{key-replaced, key-single}
+use Rattle.marks.specs.Marks.{hiddenMark}
+use Rattle.marks.proofs.Keys.{key-unmarked}
+use Rattle.machine.proofs.LineEnds.{key-replaced, key-undoubled}
 use Rattle.key.specs.declared.KeyAnswer.{KeyAnswer}
 use Rattle.key.specs.declared.KeyAnswer.the-variants.{Keyed}
 use Rattle.key.specs.Answers.{Keying}
@@ -66,7 +68,7 @@ fine-again limit s t L e l w =
 module _ {limit : ℕ} {s : List ℕ} {L : Lists} {before after before′ after′ : List ℕ} {n : ℕ} {r : KeyAnswer} (j : Keying limit s L before after (Keyed n)) (k : Keying limit (take n after) L before′ after′ r) (h : n ≤ length before′) where
   -- a key has no CR LF, so that it is its own replaced text
   own : replaced (take n after) ≡ take n after
-  own = ap replaced (wrote-key j) ∙ key-replaced L s (told j .single) (told j .keyable) ∙ sym (wrote-key j)
+  own = ap replaced (wrote-key j) ∙ key-replaced L s (told j .undoubled) (told j .keyable) ∙ sym (wrote-key j)
 
   same-key : keyOf L (replaced (take n after)) ≡ take n after
   same-key = ap (keyOf L) (own ∙ wrote-key j) ∙ key-again L (fair-of limit s L (told j .fine)) (replaced s) (told j .keyable) ∙ sym (wrote-key j)
@@ -77,10 +79,11 @@ module _ {limit : ℕ} {s : List ℕ} {L : Lists} {before after before′ after�
   pub again-keyed : r ≡ Keyed n
   again-keyed =
       let f : tokenVerdict limit (take n after) L ≡ verdict.Fine = fine-again limit s (take n after) L (told j .fine) (omega (arith, as-long, wrote-short j)) (wrote-well j) in
-      let d : doubleReturn (take n after) ≡ nowhere = ap doubleReturn (wrote-key j) ∙ key-single L s (told j .single) (told j .keyable) in
+      let d : doubleReturn (take n after) ≡ nowhere = ap doubleReturn (wrote-key j) ∙ key-undoubled L s (told j .undoubled) (told j .keyable) in
+      let m : hiddenMark (take n after) ≡ nowhere = ap hiddenMark (wrote-key j) ∙ key-unmarked L s (fine-valid limit s L (told j .fine) .well) (told j .unmarked) in
       let b : brokenAt L (replaced (take n after)) ≡ nowhere = ap (brokenAt L) (own ∙ wrote-key j) ∙ again-keyable L (fair-of limit s L (told j .fine)) (replaced s) (told j .keyable) in
       let l : length (keyOf L (replaced (take n after))) ≡ n = ap length same-key ∙ as-long in
-      k .answer ∙ keyed-answer limit (take n after) L f d b (omega arith) ∙ ap Keyed l
+      k .answer ∙ keyed-answer limit (take n after) L f d m b (omega arith) ∙ ap Keyed l
 
   pub again-same : take n after′ ≡ take n after
   again-same = wrote-key (subst (λ (x : KeyAnswer). Keying limit (take n after) L before′ after′ x) again-keyed k) ∙ same-key

@@ -1,4 +1,4 @@
--- THE KEY CALL ANSWERS WITH THE KEY wherever document 01 says that there is one: for a valid text without CR CR LF, valid lists, no broken token, and room.
+-- THE KEY CALL ANSWERS WITH THE KEY wherever document 01 says that there is one: for a valid text without CR CR LF and hidden marks, valid lists, no broken token, and room.
 use Prim.Native.Nat.{ℕ, _≤_}
 use mathlib.Core.Path.{_≡_, subst, _∙_}
 use mathlib.Core.List.{List}
@@ -19,6 +19,7 @@ use Rattle.text.proofs.Verdicts.{fine-long, fine-utf8}
 use Rattle.eaters.specs.Find.{nowhere}
 use Rattle.line_ends.specs.LineEnds.{replaced, doubleReturn}
 use Rattle.line_ends.proofs.Replaced.{replaced-few}
+use Rattle.marks.specs.Marks.{hiddenMark}
 use Rattle.canon.specs.Keyable.{Keyable}
 use Rattle.canon.specs.Key.{keyOf}
 use Rattle.canon.proofs.Short.{key-short}
@@ -59,8 +60,8 @@ module _ (limit : ℕ) (s : List ℕ) (L : Lists) where
       }
 
   -- the answer then
-  pub keyed-answer : {room : ℕ} → tokenVerdict limit s L ≡ Fine → doubleReturn s ≡ nowhere → Keyable L (replaced s) → length (keyOf L (replaced s)) ≤ room → keyAnswer limit s L room ≡ Keyed (length (keyOf L (replaced s)))
-  keyed-answer {room} f d u h = rw (f, d, u, le-leb (length (keyOf L (replaced s))) room h)
+  pub keyed-answer : {room : ℕ} → tokenVerdict limit s L ≡ Fine → doubleReturn s ≡ nowhere → hiddenMark s ≡ nowhere → Keyable L (replaced s) → length (keyOf L (replaced s)) ≤ room → keyAnswer limit s L room ≡ Keyed (length (keyOf L (replaced s)))
+  keyed-answer {room} f d m u h = rw (f, d, m, u, le-leb (length (keyOf L (replaced s))) room h)
 
 -- A BUFFER AS LONG AS THE TEXT always has room
 pub room-enough : (L : Lists) (s before : List ℕ) → length s ≤ length before → length (keyOf L (replaced s)) ≤ length before
@@ -69,7 +70,7 @@ room-enough L s before h = omega (arith, key-short L (replaced s), replaced-few 
 -- WHAT THE CALL ANSWERS then
 module _ {limit : ℕ} {s : List ℕ} {L : Lists} {before after : List ℕ} {r : KeyAnswer} (h : HasKey limit s L before) (k : Keying limit s L before after r) where
   pub answers-keyed : r ≡ Keyed (length (keyOf L (replaced s)))
-  answers-keyed = k .answer ∙ keyed-answer limit s L (valid-fine limit s L (h .valid)) (h .single) (h .whole) (h .room)
+  answers-keyed = k .answer ∙ keyed-answer limit s L (valid-fine limit s L (h .valid)) (h .undoubled) (h .unmarked) (h .whole) (h .room)
 
   pub keyed : Keying limit s L before after (Keyed (length (keyOf L (replaced s))))
   keyed = subst (λ (x : KeyAnswer). Keying limit s L before after x) answers-keyed k
@@ -78,4 +79,4 @@ module _ {limit : ℕ} {s : List ℕ} {L : Lists} {before after : List ℕ} {r :
 pub keyed-only : {limit : ℕ} {s : List ℕ} {L : Lists} {before after : List ℕ} {n : ℕ} → Keying limit s L before after (Keyed n) → HasKey limit s L before
 keyed-only {limit} {s} {L} {before} {after} {n} k =
     let d : Done limit s L (length before) n = done (k .answer) in
-    record { valid = fine-valid limit s L (d .fine); single = d .single; whole = d .keyable; room = omega (arith, d .long, d .fits) }
+    record { valid = fine-valid limit s L (d .fine); undoubled = d .undoubled; unmarked = d .unmarked; whole = d .keyable; room = omega (arith, d .long, d .fits) }

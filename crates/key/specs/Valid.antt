@@ -1,4 +1,4 @@
--- What the key call lets through, in the words of documents 01 and 02 (W3). `limit` is the most pairs of a list.
+-- What the key call lets through, in the words of documents 01 and 02 (W3, W6). `limit` is the most pairs of a list.
 use Prim.Native.Nat.{ℕ, _/_, _≤_}
 use mathlib.Core.Path.{_≡_}
 use mathlib.Core.List.{List}
@@ -8,6 +8,7 @@ use Rattle.ranges.specs.Rules.{Good}
 use Rattle.eaters.specs.Find.{nowhere}
 use Rattle.token.specs.Lists.{Lists}
 use Rattle.line_ends.specs.LineEnds.{replaced, doubleReturn}
+use Rattle.marks.specs.Marks.{hiddenMark}
 use Rattle.canon.specs.Keyable.{Keyable}
 use Rattle.canon.specs.Key.{keyOf}
 
@@ -24,9 +25,10 @@ pub record Valid (limit : ℕ) (s : List ℕ) (L : Lists) : Type 0 where
   pub continues : Allowed limit (L .continues)
   pub emoji : Allowed limit (L .emoji)
 
--- besides, CR CR LF stands nowhere, no token of the replaced text is broken, and the buffer has room for its key
+-- besides, no CR CR LF and no hidden mark stands anywhere, no token of the replaced text is broken, and the buffer has room for its key
 pub record HasKey (limit : ℕ) (s : List ℕ) (L : Lists) (before : List ℕ) : Type 0 where
   pub valid : Valid limit s L
-  pub single : doubleReturn s ≡ nowhere
+  pub undoubled : doubleReturn s ≡ nowhere
+  pub unmarked : hiddenMark s ≡ nowhere
   pub whole : Keyable L (replaced s)
   pub room : length (keyOf L (replaced s)) ≤ length before

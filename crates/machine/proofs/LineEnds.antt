@@ -31,17 +31,17 @@ key-free L s f k =
     ap noCrLf (key-encode L s) ∙ encode-free _ ∙ ap (λ (is : List Item). noCrLf (written is)) (sym (same-items (tokens L false (chars s)))) ∙ chars-free L (chars s) (chars-of-free s f) (sym (same-broken s 0 (tokens L false (chars s))) ∙ k)
 
 -- THE KEY OF A REPLACED TEXT, where CR CR LF stands nowhere in the text: it has no CR LF
-module _ (L : Lists) (s : List ℕ) (single : doubleReturn s ≡ nowhere) (whole : Keyable L (replaced s)) where
+module _ (L : Lists) (s : List ℕ) (undoubled : doubleReturn s ≡ nowhere) (whole : Keyable L (replaced s)) where
   pub key-clean : noCrLf (keyOf L (replaced s)) ≡ true
-  key-clean = key-free L (replaced s) (none-left s single) whole
+  key-clean = key-free L (replaced s) (none-left s undoubled) whole
 
   -- so that it is its own replaced text
   pub key-replaced : replaced (keyOf L (replaced s)) ≡ keyOf L (replaced s)
   key-replaced = same (keyOf L (replaced s)) key-clean
 
   -- and has no CR CR LF either: it is accepted again
-  pub key-single : doubleReturn (keyOf L (replaced s)) ≡ nowhere
-  key-single = none-twice (keyOf L (replaced s)) key-clean
+  pub key-undoubled : doubleReturn (keyOf L (replaced s)) ≡ nowhere
+  key-undoubled = none-twice (keyOf L (replaced s)) key-clean
 
   module _ (fair : Fair L) where
     pub line-keyable : Keyable L (replaced (keyOf L (replaced s)))

@@ -41,10 +41,13 @@ module _ (s : List ℕ) (at : ℕ) where
   pub joined-all : {bits i : ℕ} → Joined s at bits i → 8 ≤ i → ltb bits 0x80 ≡ true → AsciiRun s at 8
   joined-all {bits} {i} j n e = record { room = j .room; low = λ k l. j .low (ltb-true bits 0x80 e) k (omega (arith, l)) }
 
+-- OVER A RUN: what goes from the place of a byte of ASCII to the next place goes over a run of them
+pub over-run : (s : List ℕ) (P : ℕ → Type 0) → ((i : ℕ) → i < length s → getD s i 0 < 0x80 → P i → P (i + 1)) → {at : ℕ} (n : ℕ) → P at → AsciiRun s at n → P (at + n)
+over-run s P more {at} zero g r = simp unary-clauses g
+over-run s P more {at} (suc n) g r =
+    let h : at + n + 1 ≡ at + suc n = omega arith in
+    rw h at (more (at + n) (omega (arith, r .room)) (r .low n (omega arith)) (over-run s P more n g (record { room = omega (arith, r .room); low = λ k l. r .low k (omega (arith, l)) })))
+
 -- the check of a text goes on past them
 pub reached-run : (s : List ℕ) {at : ℕ} (n : ℕ) → Reached s at → AsciiRun s at n → Reached s (at + n)
-reached-run s {at} zero g r = simp unary-clauses g
-reached-run s {at} (suc n) g r =
-    let h : at + n + 1 ≡ at + suc n = omega arith in
-    rw h at (reached-more s (reached-run s n g (record { room = omega (arith, r .room); low = λ k l. r .low k (omega (arith, l)) }))
-    (at-ascii s (at + n) (omega (arith, r .room)) refl (r .low n (omega arith))) refl)
+reached-run s n g r = over-run s (Reached s) (λ i h l g. reached-more s g (at-ascii s i h refl l) refl) n g r

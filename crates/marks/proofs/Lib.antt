@@ -1,0 +1,4 @@
+pub mod Places
+pub mod Keys
+pub mod Twins
+pub mod Answers
