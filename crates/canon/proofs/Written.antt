@@ -69,12 +69,12 @@ key-encode L s = ap written (meaning-chars L s) ∙ written-encode (items (token
 -- THE CHARACTERS OF A KEY ARE ITS TEXT'S AND NEWLINES: what holds of a text's characters, of each part of them, of two parts joined and of a newline put before,
 -- holds of its key's
 module _ (P : List ℕ → Type 0) (none : P []) (front : (u a : List ℕ) → P (u ++ a) → P u) (rest : (u a : List ℕ) → P (u ++ a) → P a) (join : (u a : List ℕ) → P u → P a → P (u ++ a))
-    (newline : {cs : List ℕ} → P cs → P ('newline' ∷ cs))
+    (newline : (cs : List ℕ) → P cs → P ('newline' ∷ cs))
   where
     gap-kept : (m : List Item) → P (written m) → P (written (gapBefore m))
-    gap-kept [] h = newline h
+    gap-kept [] h = newline [] h
     gap-kept (gap ∷ is) h = h
-    gap-kept (meant k cs ∷ is) h = newline h
+    gap-kept (meant k cs ∷ is) h = newline (cs ++ written is) h
 
     items-kept : (ts : List Piece) → P (texts ts) → P (written (items ts))
     items-kept [] h = none
@@ -100,11 +100,11 @@ join : (u a : List ℕ) → Scalars u → Scalars a → Scalars (u ++ a)
 join [] a h k = k
 join (c ∷ u) a (cons p h) k = cons p (join u a h k)
 
-newline-scalar : {cs : List ℕ} → Scalars cs → Scalars ('newline' ∷ cs)
-newline-scalar h = cons {c = 'newline'} (inl (omega arith)) h
+newline-scalar : (cs : List ℕ) → Scalars cs → Scalars ('newline' ∷ cs)
+newline-scalar cs h = cons {c = 'newline'} (inl (omega arith)) h
 
 pub key-scalars : (L : Lists) (s : List ℕ) → Scalars (written (items (tokens L false (chars s))))
-key-scalars L s = kept-in-key (λ (l : List ℕ). Scalars l) nil front rest join (λ h. newline-scalar h) L s (scalars s)
+key-scalars L s = kept-in-key (λ (l : List ℕ). Scalars l) nil front rest join newline-scalar L s (scalars s)
 
 -- what items are spelled as has those items again
 spelled-gap : (m : List Item) → itemsSaid (spelled m) ≡ m → itemsSaid (spelled (gapBefore m)) ≡ gapBefore m

@@ -18,7 +18,7 @@ use Rattle.lexer.specs.Checked.{Checked}
 use Rattle.places.specs.declared.Found.{Found}
 use Rattle.places.specs.declared.Found.the-variants.{At, Nowhere}
 use Rattle.places.specs.Found.{foundAt}
-use Rattle.places.proofs.Found.{found-at, found-nowhere}
+use Rattle.places.proofs.Told.{found-at, found-nowhere}
 use Rattle.line_ends.specs.LineEnds.{replaced, doubleReturn}
 use Rattle.marks.specs.Marks.{hiddenMark}
 use Rattle.canon.specs.Keyable.{brokenAt}

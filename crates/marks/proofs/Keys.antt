@@ -62,7 +62,7 @@ no-join (c ∷ u) a h k = and-both (and-1 (not (hidden c)) _ h) (no-join u a (an
 
 -- a key of a text without them, for any lists
 key-none : (L : Lists) (s : List ℕ) → noMarks (chars s) ≡ true → noMarks (chars (keyOf L s)) ≡ true
-key-none L s h = ap noMarks (key-chars L s) ∙ kept-in-key (λ (l : List ℕ). noMarks l ≡ true) refl no-front no-rest no-join (λ k. k) L s h
+key-none L s h = ap noMarks (key-chars L s) ∙ kept-in-key (λ (l : List ℕ). noMarks l ≡ true) refl no-front no-rest no-join (λ cs k. k) L s h
 
 -- the characters of the replaced text have one exactly where the text's have
 pub replaced-none : (s : List ℕ) → WellFormed s → noMarks (chars (replaced s)) ≡ noMarks (chars s)

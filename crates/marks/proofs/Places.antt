@@ -20,6 +20,23 @@ use Rattle.places.specs.declared.Found.the-variants.{At, Nowhere}
 use Rattle.places.specs.Found.{foundAt}
 use Rattle.marks.specs.Marks.{hidden, markFrom, hiddenMark}
 
+-- WHETHER A CHARACTER IS ONE, by its range
+module _ (c : ℕ) where
+  pub before-marks : c < 0x202A → false ≡ hidden c
+  before-marks h = sym (rw (under-within 0x202A 0x202E c h, under-within 0x2066 0x2069 c (omega arith)))
+
+  pub first-marks : 0x202A ≤ c → c ≤ 0x202E → true ≡ hidden c
+  first-marks l h = sym (rw (inside-within 0x202A 0x202E c l h))
+
+  pub between-marks : 0x202E < c → c < 0x2066 → false ≡ hidden c
+  between-marks l h = sym (rw (over-within 0x202A 0x202E c (omega arith) l, under-within 0x2066 0x2069 c h))
+
+  pub last-marks : 0x2066 ≤ c → c ≤ 0x2069 → true ≡ hidden c
+  last-marks l h = sym (rw (over-within 0x202A 0x202E c (omega arith) (omega arith), inside-within 0x2066 0x2069 c l h))
+
+  pub past-marks : 0x2069 < c → false ≡ hidden c
+  past-marks h = sym (rw (over-within 0x202A 0x202E c (omega arith) (omega arith), over-within 0x2066 0x2069 c (omega arith) h))
+
 -- none stands before a place, and the characters from there on are the text's
 pub record NoneBefore (s : List ℕ) (i : ℕ) : Type 0 where
   pub room : i ≤ length s
@@ -41,7 +58,7 @@ module _ (s : List ℕ) (i : ℕ) {r : Decoded} {c w : ℕ} (g : NoneBefore s i)
 
 -- ASCII has none
 low-plain : (c : ℕ) → c < 0x80 → hidden c ≡ false
-low-plain c h = rw (under-within 0x202A 0x202E c (omega arith), under-within 0x2066 0x2069 c (omega arith))
+low-plain c h = sym (before-marks c (omega arith))
 
 pub none-in-run : (s : List ℕ) {i : ℕ} (n : ℕ) → NoneBefore s i → AsciiRun s i n → NoneBefore s (i + n)
 none-in-run s n g r = over-run s (NoneBefore s) (λ j h l g. none-here s j g (at-ascii s j h refl l) refl refl (low-plain _ l)) n g r
@@ -53,11 +70,3 @@ module _ (s : List ℕ) (i : ℕ) {r : Decoded} (g : NoneBefore s i) (e : r ≡ 
 
   pub none-ill : {x : Cause} → r ≡ Ill x → Nowhere ≡ foundAt (hiddenMark s)
   none-ill k = sym (ap foundAt (g .later ∙ ap (markFrom i) (ill-chars s i e k)))
-
--- WHETHER A CHARACTER IS ONE, by its range
-module _ (c : ℕ) where
-  pub first-marks : 0x202A ≤ c → c ≤ 0x202E → true ≡ hidden c
-  first-marks l h = sym (rw (inside-within 0x202A 0x202E c l h))
-
-  pub last-marks : 0x2066 ≤ c → c ≤ 0x2069 → true ≡ hidden c
-  last-marks l h = sym (rw (over-within 0x202A 0x202E c (omega arith) (omega arith), inside-within 0x2066 0x2069 c l h))
