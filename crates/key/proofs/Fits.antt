@@ -49,14 +49,11 @@ bytesIn (Room n) = 0
 bytesIn (Refused bad) = 0
 
 module _ {limit : ℕ} {s : List ℕ} {L : Lists} {room n : ℕ} where
-  abbrev key : List ℕ
-  key = keyOf L (replaced s)
-
-  by-cases : (v : Verdict) (d m p : Place) (t : Bool) → tokenVerdict limit s L ≡ v → doubleReturn s ≡ d → hiddenMark s ≡ m → brokenAt L (replaced s) ≡ p → leb (length key) room ≡ t
-      → Keyed n ≡ refusedOr Refused v (undoubled d (unmarked m (unbroken p (pick t (Keyed (length key)) (Room (length key)))))) → Done limit s L room n
+  by-cases : (v : Verdict) (d m p : Place) (t : Bool) → tokenVerdict limit s L ≡ v → doubleReturn s ≡ d → hiddenMark s ≡ m → brokenAt L (replaced s) ≡ p → leb (length (keyOf L (replaced s))) room ≡ t
+      → Keyed n ≡ refusedOr Refused v (undoubled d (unmarked m (unbroken p (pick t (Keyed (length (keyOf L (replaced s)))) (Room (length (keyOf L (replaced s)))))))) → Done limit s L room n
   by-cases verdict.Fine nowhere nowhere nowhere true f d m p q e =
-      let k : n ≡ length key = ap bytesIn e in
-      record { fine = f; undoubled = d; unmarked = m; keyable = p; long = k; fits = omega (arith, k, leb-true (length key) room q) }
+      let k : n ≡ length (keyOf L (replaced s)) = ap bytesIn e in
+      record { fine = f; undoubled = d; unmarked = m; keyable = p; long = k; fits = omega (arith, k, leb-true (length (keyOf L (replaced s))) room q) }
   by-cases verdict.Fine nowhere nowhere nowhere false f d m p q e = absurd (true≢false (ap isKeyed e))
   by-cases verdict.Fine nowhere nowhere (at start) t f d m p q e = absurd (true≢false (ap isKeyed e))
   by-cases verdict.Fine nowhere (at place) p t f d m g q e = absurd (true≢false (ap isKeyed e))
@@ -64,7 +61,7 @@ module _ {limit : ℕ} {s : List ℕ} {L : Lists} {room n : ℕ} where
   by-cases (verdict.Refused b) d m p t f h i g q e = absurd (true≢false (ap isKeyed e))
 
   pub done : Keyed n ≡ keyAnswer limit s L room → Done limit s L room n
-  done = by-cases (tokenVerdict limit s L) (doubleReturn s) (hiddenMark s) (brokenAt L (replaced s)) (leb (length key) room) refl refl refl refl refl
+  done = by-cases (tokenVerdict limit s L) (doubleReturn s) (hiddenMark s) (brokenAt L (replaced s)) (leb (length (keyOf L (replaced s))) room) refl refl refl refl refl
 
 -- A KEY THAT WAS WRITTEN fits into the buffer, and its bytes are a part of it
 module _ {limit : ℕ} {s : List ℕ} {L : Lists} {before after : List ℕ} {r : KeyAnswer} {n : ℕ} (k : Keying limit s L before after r) (e : r ≡ Keyed n) (kept : length after ≡ length before) where

@@ -1,7 +1,7 @@
--- `key::key` meets its contract. The verdict, CR CR LF, and then the key (Calls).
+-- `key::key` meets its contract. The verdict, CR CR LF, hidden marks, and then the key (Calls).
 use borrow.Author.Needs.{needs}
 use Rattle.lexer.proofs.Checks.{fine-checked}
-use Rattle.key.proofs.Calls.{refused-in, doubled-in, checked-in}
+use Rattle.key.proofs.Calls.{refused-in, doubled-in, marked-in, checked-in}
 use Rattle.key.proofs.key.Statement.{statement}
 use Rattle.key.proofs.key.Tie as tie
 
@@ -29,14 +29,26 @@ returns-2 c = search doubled-in
 enum-told-2 : tie.Need-enum-told-2
 enum-told-2 c = search needs
 
+hidden-mark-requires : tie.Need-hidden-mark-requires
+hidden-mark-requires c κs = search needs
+
+enum-known-at-2 : tie.Need-enum-known-at-2
+enum-known-at-2 c = search needs
+
+returns-3 : tie.Need-returns-3
+returns-3 c = search marked-in
+
+enum-told-3 : tie.Need-enum-told-3
+enum-told-3 c = search needs
+
 checked-key-requires : tie.Need-checked-key-requires
 checked-key-requires c κs = search fine-checked
 
 same-length : tie.Need-same-length
 same-length c = search needs
 
-returns-3 : tie.Need-returns-3
-returns-3 c = search checked-in
+returns-4 : tie.Need-returns-4
+returns-4 c = search checked-in
 
 pub key-spec : {M : Type 1} → statement M
 key-spec =
@@ -50,6 +62,10 @@ key-spec =
     enum-known-at
     returns-2
     enum-told-2
+    hidden-mark-requires
+    enum-known-at-2
+    returns-3
+    enum-told-3
     checked-key-requires
     same-length
-    returns-3)
+    returns-4)

@@ -19,6 +19,9 @@ enum-known-answer-4 c = search needs
 enum-known-answer-5 : tie.Need-enum-known-answer-5
 enum-known-answer-5 c = search needs
 
+enum-known-answer-6 : tie.Need-enum-known-answer-6
+enum-known-answer-6 c = search needs
+
 bad-numbers-requires : tie.Need-bad-numbers-requires
 bad-numbers-requires c κs = search needs
 
@@ -35,7 +38,10 @@ returns-4 : tie.Need-returns-4
 returns-4 c = search numbers-at
 
 returns-5 : tie.Need-returns-5
-returns-5 c = search needs
+returns-5 c = search numbers-at
+
+returns-6 : tie.Need-returns-6
+returns-6 c = search needs
 
 pub key-numbers-spec : {M : Type 1} → statement M
 key-numbers-spec =
@@ -46,9 +52,11 @@ key-numbers-spec =
     enum-known-answer-3
     enum-known-answer-4
     enum-known-answer-5
+    enum-known-answer-6
     bad-numbers-requires
     returns
     returns-2
     returns-3
     returns-4
-    returns-5)
+    returns-5
+    returns-6)
