@@ -19,6 +19,7 @@ use Rattle.eaters.specs.Find.{Place, at, nowhere, further, find}
 use Rattle.places.specs.declared.Found.the-variants.{At, Nowhere}
 use Rattle.line_ends.specs.LineEnds.{crLf, doubleAt, doubleReturn}
 use Rattle.places.specs.Found.{foundAt}
+use Rattle.places.proofs.Searches.{NoneBefore, found-here, none-here, none-left}
 
 -- AFTER A CR: the next character is LF or not
 module _ (s : List ℕ) (next : ℕ) {c : ℕ} where
@@ -55,39 +56,12 @@ module _ (s : List ℕ) (i : ℕ) (h : i + 2 < length s) where
   pub double-first : (getD s i 0 ≡ 13 → ⊥) → false ≡ doubleAt (drop i s)
   double-first q = sym (three-bytes ∙ rw (ne-eqb (getD s i 0) 13 q))
 
--- FROM THE LEFT: k places further
-abbrev pub shifted : ℕ → Place → Place
-shifted k (at j) = at (k + j)
-shifted k nowhere = nowhere
+-- FROM THE LEFT
+pub double-found : (s : List ℕ) (i : ℕ) {last : ℕ} {t : Bool} → NoneBefore doubleAt s i → last ≡ length s - 2 → i < last → t ≡ doubleAt (drop i s) → t ≡ true → At i ≡ foundAt (doubleReturn s)
+double-found s i u e h p q = sym (ap foundAt (found-here doubleAt s i u (omega arith) (sym p ∙ q)))
 
-shifted-further : (k : ℕ) (q : Place) → shifted k (further q) ≡ shifted (k + 1) q
-shifted-further k (at j) = ap at (omega arith)
-shifted-further k nowhere = refl
-
--- none of the first i places has one
-abbrev pub NoneBefore : (s : List ℕ) (i : ℕ) → Type 0
-NoneBefore s i = doubleReturn s ≡ shifted i (doubleReturn (drop i s))
-
-pub none-before : (s : List ℕ) → NoneBefore s 0
-none-before s = go (doubleReturn s)
-  where
-    go : (q : Place) → q ≡ shifted 0 q
-    go (at j) = ap at (omega arith)
-    go nowhere = refl
-
-pub double-found : (s : List ℕ) (i : ℕ) {last : ℕ} {t : Bool} → NoneBefore s i → last ≡ length s - 2 → i < last → t ≡ doubleAt (drop i s) → t ≡ true → At i ≡ foundAt (doubleReturn s)
-unfolding find
-double-found s i u e h p q =
-    let here : doubleReturn (drop i s) ≡ at 0 = rw (drop-cons s i 0 (omega arith)) (ap (λ (b : Bool). pick b (at 0) (further (doubleReturn (drop (suc i) s)))) (rw (drop-cons s i 0 (omega arith)) at (sym p ∙ q))) in
-    let z : i + 0 ≡ i = omega arith in
-    sym (ap foundAt (u ∙ ap (shifted i) here ∙ ap at z))
-
-pub none-here : (s : List ℕ) (i : ℕ) {last : ℕ} {t : Bool} → NoneBefore s i → last ≡ length s - 2 → i < last → t ≡ doubleAt (drop i s) → t ≡ false → NoneBefore s (i + 1)
-unfolding find
-none-here s i u x h p q =
-    let a : i + 1 ≡ suc i = omega arith in
-    let e : doubleReturn (drop i s) ≡ further (doubleReturn (drop (suc i) s)) = rw (drop-cons s i 0 (omega arith)) (ap (λ (b : Bool). pick b (at 0) (further (doubleReturn (drop (suc i) s)))) (rw (drop-cons s i 0 (omega arith)) at (sym p ∙ q))) in
-    u ∙ ap (shifted i) e ∙ shifted-further i (doubleReturn (drop (suc i) s)) ∙ ap (λ (k : ℕ). shifted (i + 1) (doubleReturn (drop k s))) (sym a)
+pub double-on : (s : List ℕ) (i : ℕ) {last : ℕ} {t : Bool} → NoneBefore doubleAt s i → last ≡ length s - 2 → i < last → t ≡ doubleAt (drop i s) → t ≡ false → NoneBefore doubleAt s (i + 1)
+double-on s i u e h p q = none-here doubleAt s i u (omega arith) (sym p ∙ q)
 
 -- two bytes have none
 few-none : (s : List ℕ) → length s ≤ 2 → doubleReturn s ≡ nowhere
@@ -110,5 +84,5 @@ few-none (a ∷ b ∷ c ∷ s) h = absurd (omega arith)
 pub double-few : (s : List ℕ) → length s < 3 → Nowhere ≡ foundAt (doubleReturn s)
 double-few s h = sym (ap foundAt (few-none s (omega arith)))
 
-pub double-none : (s : List ℕ) (i : ℕ) {last : ℕ} → NoneBefore s i → 3 ≤ length s → last ≡ length s - 2 → last ≤ i → Nowhere ≡ foundAt (doubleReturn s)
-double-none s i u m e h = sym (ap foundAt (u ∙ ap (shifted i) (few-none (drop i s) (omega (arith, length-drop i s)))))
+pub double-none : (s : List ℕ) (i : ℕ) {last : ℕ} → NoneBefore doubleAt s i → 3 ≤ length s → last ≡ length s - 2 → last ≤ i → Nowhere ≡ foundAt (doubleReturn s)
+double-none s i u m e h = sym (ap foundAt (none-left doubleAt s i u (few-none (drop i s) (omega (arith, length-drop i s)))))

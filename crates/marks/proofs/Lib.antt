@@ -1,3 +1,5 @@
+pub mod Ranges
+pub mod Bytes
 pub mod Places
 pub mod Keys
 pub mod Twins

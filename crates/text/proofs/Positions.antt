@@ -60,9 +60,9 @@ boundary-parts = by-chars (λ (s : List ℕ). (at : ℕ) → onBoundary s at ≡
         record { before = c ∷ p .before; joined = ap (λ (l : List ℕ). c ∷ l) (ap (λ (t : List ℕ). p .before ++ chars t) (sym k) ∙ p .joined) ∙ sym n; bytes = rw (f .wide, p .bytes) j }
 
 -- the first byte of a character is not a tail, and the others are
-record Shape (s : List ℕ) (w : ℕ) : Type 0 where
-  first : within 0x80 0xBF (getD s 0 0) ≡ false
-  others : (k : ℕ) → 0 < k → k < w → within 0x80 0xBF (getD s k 0) ≡ true
+pub record Shape (s : List ℕ) (w : ℕ) : Type 0 where
+  pub first : within 0x80 0xBF (getD s 0 0) ≡ false
+  pub others : (k : ℕ) → 0 < k → k < w → within 0x80 0xBF (getD s k 0) ≡ true
 
 abbrev ShapeOf : List ℕ → Decoded → Type 0
 ShapeOf s (Char c w) = Shape s w
@@ -89,7 +89,7 @@ shape-of (four {a} {b} {c} {d} {s} l h tb tc td m t) = record { first = over-wit
         ⊎-elim (λ j. let e : k ≡ 1 = omega arith in rw e (is-tail tb))
         (λ i. ⊎-elim (λ j. let e : k ≡ 2 = omega arith in rw e (is-tail tc)) (λ j. let e : k ≡ 3 = omega arith in rw e (is-tail td)) (below-or-not k 3)) (below-or-not k 2)
 
-shape : (s : List ℕ) {c w : ℕ} → decoded s ≡ Char c w → Shape s w
+pub shape : (s : List ℕ) {c w : ℕ} → decoded s ≡ Char c w → Shape s w
 shape s e = subst (λ (d : Decoded). ShapeOf s d) e (shape-of (view s))
 
 -- the byte at a position, by where the position is

@@ -1,12 +1,14 @@
--- `line_ends::double_return` meets its contract. From the left, none before the place reached (Places).
+-- `line_ends::double_return` meets its contract. From the left, none before the place reached (Places; Searches of `places`).
 use borrow.Author.Needs.{needs}
 use Prim.Native.Nat.{_-_, _≤_}
-use Rattle.line_ends.proofs.Places.{NoneBefore, none-before, none-here, double-few, double-found, double-none}
+use Rattle.places.proofs.Searches.{NoneBefore, none-before}
+use Rattle.line_ends.specs.LineEnds.{doubleAt}
+use Rattle.line_ends.proofs.Places.{double-on, double-few, double-found, double-none}
 use Rattle.line_ends.proofs.double_return.Statement.{statement}
 use Rattle.line_ends.proofs.double_return.Tie as tie
 
 abbrev Inv-loop : tie.InvT-loop
-Inv-loop text last i₀ i = NoneBefore text i × (i ≤ last)
+Inv-loop text last i₀ i = NoneBefore doubleAt text i × (i ≤ last)
 
 abbrev μ-loop : tie.MeasureT-loop
 μ-loop text last i₀ i = last - i
@@ -18,7 +20,7 @@ sub-last : tie.Need-sub-last Inv-loop μ-loop
 sub-last c = search needs
 
 loop-holds : tie.Need-loop-holds Inv-loop μ-loop
-loop-holds c = (search none-before, search needs)
+loop-holds c = (none-before doubleAt _, search needs)
 
 double-at-requires : tie.Need-double-at-requires Inv-loop μ-loop
 double-at-requires c κs = search needs
@@ -33,7 +35,7 @@ loop-less : tie.Need-loop-less Inv-loop μ-loop
 loop-less c = search needs
 
 loop-again : tie.Need-loop-again Inv-loop μ-loop
-loop-again c = (search none-here, search needs)
+loop-again c = (search double-on, search needs)
 
 returns-3 : tie.Need-returns-3 Inv-loop μ-loop
 returns-3 c = search double-none

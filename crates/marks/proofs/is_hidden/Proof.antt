@@ -1,6 +1,6 @@
--- `marks::is_hidden` meets its contract. By the ranges (Places).
+-- `marks::is_hidden` meets its contract. By the ranges (Ranges).
 use native.Mathlib.Omega.{arith}
-use Rattle.marks.proofs.Places.{before-marks, first-marks, between-marks, last-marks, past-marks}
+use Rattle.marks.proofs.Ranges.{before-marks, first-marks, between-marks, last-marks, past-marks}
 use Rattle.marks.proofs.is_hidden.Statement.{statement}
 use Rattle.marks.proofs.is_hidden.Tie as tie
 
