@@ -12,9 +12,11 @@ use Rattle.refusal.specs.declared.Bad.{Bad}
 use Rattle.refusal.specs.declared.Verdict.{Verdict}
 use Rattle.refusal.specs.declared.Verdict.the-variants as verdict
 use Rattle.refusal.specs.Order.{refusedOr}
+use Rattle.text.specs.Chars.{WellFormed}
 use Rattle.token.specs.Lists.{Lists, lent}
 use Rattle.lexer.specs.Answers.{tokenVerdict}
 use Rattle.lexer.specs.Checked.{Checked}
+use Rattle.lexer.proofs.Checks.{fine-checked}
 use Rattle.places.specs.declared.Found.{Found}
 use Rattle.places.specs.declared.Found.the-variants.{At, Nowhere}
 use Rattle.places.specs.Found.{foundAt}
@@ -116,6 +118,10 @@ module _ (limit : ℕ) (s : List ℕ) (L : Lists) (before : List ℕ) {v : Verdi
 
   pub refused-in : {bad : Bad} → v ≡ verdict.Refused bad → Keying limit s L before before (Refused bad)
   refused-in k = record { answer = ap (λ (u : Verdict). refusedOr Refused u (later (doubleReturn s))) (sym k ∙ d); holds = refl }
+
+  -- the text is then UTF-8
+  pub well-in : v ≡ verdict.Fine → WellFormed s
+  well-in k = fine-checked limit s L d k .well
 
   module _ (k : v ≡ verdict.Fine) {f : Found} (g : f ≡ foundAt (doubleReturn s)) where
     past : later (doubleReturn s) ≡ keyAnswer limit s L (length before)

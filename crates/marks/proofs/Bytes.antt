@@ -60,17 +60,18 @@ inside s {c} {w} e h (suc k) l =
     let a : suc k + 1 ≡ suc (suc k) = omega arith in
     rw a at (none-here markAt s (suc k) (inside s e h k (omega arith)) (omega (arith, f .room)) (other-at s (suc k) (λ q. omega (arith, t .most))))
 
+-- no bytes have none
+pub mark-empty : (s : List ℕ) → length s ≡ 0 → find markAt s ≡ nowhere
+unfolding find decoded
+mark-empty [] l = refl
+mark-empty (a ∷ s) l = absurd (omega arith)
+
 -- IN A TEXT OF UTF-8 the first of all places is that of the first character
 pub mark-places : (s : List ℕ) → WellFormed s → (p : ℕ) → shifted p (find markAt s) ≡ markFrom p (chars s)
 mark-places = by-chars (λ (s : List ℕ). WellFormed s → (p : ℕ) → shifted p (find markAt s) ≡ markFrom p (chars s)) none more
   where
     none : (s : List ℕ) → chars s ≡ [] → WellFormed s → (p : ℕ) → shifted p (find markAt s) ≡ markFrom p (chars s)
-    none s n v p = rw n (empty s (sym v ∙ ap size n))
-      where
-        empty : (s : List ℕ) → length s ≡ 0 → shifted p (find markAt s) ≡ nowhere
-        unfolding find decoded
-        empty [] l = refl
-        empty (a ∷ s) l = absurd (omega arith)
+    none s n v p = rw n (ap (shifted p) (mark-empty s (sym v ∙ ap size n)))
 
     more : (s : List ℕ) (c w : ℕ) → decoded s ≡ Char c w → Fact s c w → chars s ≡ c ∷ chars (drop w s) → (WellFormed (drop w s) → (p : ℕ) → shifted p (find markAt (drop w s)) ≡ markFrom p (chars (drop w s)))
         → WellFormed s → (p : ℕ) → shifted p (find markAt s) ≡ markFrom p (chars s)

@@ -2,8 +2,8 @@
 use Prim.Native.Nat.{ℕ, _+_, _≤_, _<_}
 use mathlib.Core.Path.{_≡_, sym, ap, _∙_}
 use mathlib.Core.Bool.{Bool, true, false}
-use mathlib.Core.List.{List, []}
-use lib.ListN.{length, getD, drop, drop-of-length-le}
+use mathlib.Core.List.{List}
+use lib.ListN.{length, getD, drop, length-drop}
 use native.Mathlib.Omega.{arith}
 use Rattle.refusal.specs.declared.Cause.{Cause}
 use Rattle.text.specs.declared.Decoded.{Decoded}
@@ -12,13 +12,12 @@ use Rattle.text.specs.Ascii.{AsciiRun}
 use Rattle.text.specs.Utf8.{decoded}
 use Rattle.text.specs.Chars.{WellFormed}
 use Rattle.text.proofs.Runs.{over-run}
-use Rattle.eaters.specs.Find.{nowhere, find}
 use Rattle.places.specs.declared.Found.the-variants.{At, Nowhere}
 use Rattle.places.specs.Found.{foundAt}
 use Rattle.places.proofs.Searches.{NoneBefore, found-here, none-here, none-left}
 use Rattle.marks.specs.Marks.{hidden, hiddenMark}
 use Rattle.marks.specs.Front.{isMark, markAt}
-use Rattle.marks.proofs.Bytes.{other-at, mark-place}
+use Rattle.marks.proofs.Bytes.{other-at, mark-empty, mark-place}
 
 -- AT A PLACE: another first byte; or E2, and the character there
 module _ (s : List ℕ) (i : ℕ) where
@@ -45,8 +44,4 @@ pub mark-run : (s : List ℕ) {i : ℕ} (n : ℕ) → NoneBefore markAt s i → 
 mark-run s n u r = over-run s (NoneBefore markAt s) (λ j h l u. none-here markAt s j u h (other-at s j (λ e. omega (arith, l)))) n u r
 
 pub mark-none : (s : List ℕ) (i : ℕ) → WellFormed s → NoneBefore markAt s i → length s ≤ i → Nowhere ≡ foundAt (hiddenMark s)
-mark-none s i v u h = ap foundAt (sym (none-left markAt s i u (rw (drop-of-length-le s h) none)) ∙ mark-place s v)
-  where
-    none : find markAt [] ≡ nowhere
-    unfolding find decoded
-    none = refl
+mark-none s i v u h = ap foundAt (sym (none-left markAt s i u (mark-empty (drop i s) (omega (arith, length-drop i s)))) ∙ mark-place s v)

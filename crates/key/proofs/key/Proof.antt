@@ -1,7 +1,7 @@
 -- `key::key` meets its contract. The verdict, CR CR LF, hidden marks, and then the key (Calls).
 use borrow.Author.Needs.{needs}
 use Rattle.lexer.proofs.Checks.{fine-checked}
-use Rattle.key.proofs.Calls.{refused-in, doubled-in, marked-in, checked-in}
+use Rattle.key.proofs.Calls.{refused-in, doubled-in, well-in, marked-in, checked-in}
 use Rattle.key.proofs.key.Statement.{statement}
 use Rattle.key.proofs.key.Tie as tie
 
@@ -30,7 +30,7 @@ enum-told-2 : tie.Need-enum-told-2
 enum-told-2 c = search needs
 
 hidden-mark-requires : tie.Need-hidden-mark-requires
-hidden-mark-requires c κs = search needs
+hidden-mark-requires c κs = search well-in
 
 enum-known-at-2 : tie.Need-enum-known-at-2
 enum-known-at-2 c = search needs
