@@ -1,6 +1,6 @@
-"""Which vectors of operation 17, the key call, are stored, file by file: but those about ends of lines, which common/line_end_files.py makes.
+"""Which vectors of operation 17, the key call, are stored, file by file: but those about ends of lines and about marks of direction.
 
-tools/oracle/README.md describes them.
+Those are made in common/line_end_files.py and common/mark_files.py. tools/oracle/README.md describes all of them.
 """
 
 import sys

@@ -7,12 +7,19 @@ is the text with each longest run of trivia, at the ends too, as one newline byt
 The text is here the lent one with each CR LF replaced by LF (document 02, W3): the oracle reads the
 replaced text, and the place of a broken token is one in it. A text that has CR CR LF has no key: what
 is left of it, CR LF, would be replaced by a second keying.
+
+Nor has a text with one of the nine marks that change the direction of what a reader sees (document 02, W6),
+wherever it stands, in a comment or a string too. Their places are those in the lent text.
 """
 
 import itertools
 import re
 
 from common.ending import fail
+
+# The marks of direction: the embeddings, their end and the overrides, then the isolates and their end.
+HIDDEN = "\u202a\u202b\u202c\u202d\u202e\u2066\u2067\u2068\u2069"
+HIDDEN_BYTES = re.compile(rb"\xe2(\x80[\xaa-\xae]|\x81[\xa6-\xa9])")
 
 
 def replaced(text):
@@ -37,6 +44,21 @@ def first_doubled(text):
     """The place of the first CR CR LF in a lent text, or None."""
     place = text.find(b"\r\r\n")
     return None if place < 0 else place
+
+
+def first_hidden(text):
+    """The place of the first mark of direction in a lent text that is UTF-8, or None."""
+    found, place = None, 0
+    for character in text.decode("utf-8"):
+        if character in HIDDEN:
+            found = place
+            break
+        place += len(character.encode("utf-8"))
+    # A second witness: the bytes of the marks, wherever they stand.
+    seen = HIDDEN_BYTES.search(text)
+    if found != (None if seen is None else seen.start()):
+        fail(f"two ways of finding a mark of direction differ: {text.hex()}")
+    return found
 
 
 class Piece:

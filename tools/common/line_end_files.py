@@ -97,21 +97,26 @@ def every_room(calls, text):
         calls.key(room, (0x00, 0x0A, 0x0D, 0x58, 0xFF)[(room + len(text)) % 5], text)
 
 
+def by_hand(calls, answers, ill_answers, room_answers):
+    """Texts whose answers were written by hand: they are what the words say, and stored with each room."""
+    for text, expected in answers:
+        text = text.encode("utf-8")
+        check(calls, text, expected.encode("utf-8") if isinstance(expected, str) else expected)
+        every_room(calls, text)
+    for text, expected in ill_answers:
+        check(calls, text, expected)
+        every_room(calls, text)
+    for text, room, expected in room_answers:
+        text = text.encode("utf-8")
+        said = numbers_in(calls.key_answer(room, 0xAA, text)[:12])
+        if said != (*expected, 0):
+            fail(f"{text!r} in {room} bytes: {said}, not {expected}")
+        calls.key(room, 0xAA, text)
+
+
 def rows(maker):
     def fill(calls):
-        for text, expected in ANSWERS:
-            text = text.encode("utf-8")
-            check(calls, text, expected.encode("utf-8") if isinstance(expected, str) else expected)
-            every_room(calls, text)
-        for text, expected in ILL_ANSWERS:
-            check(calls, text, expected)
-            every_room(calls, text)
-        for text, room, expected in ROOM_ANSWERS:
-            text = text.encode("utf-8")
-            said = numbers_in(calls.key_answer(room, 0xAA, text)[:12])
-            if said != (*expected, 0):
-                fail(f"{text!r} in {room} bytes: {said}, not {expected}")
-            calls.key(room, 0xAA, text)
+        by_hand(calls, ANSWERS, ILL_ANSWERS, ROOM_ANSWERS)
         twins(calls)
 
     return [maker.section(NO_LISTS, fill)]
@@ -279,15 +284,18 @@ def refused(maker):
             text = of_ends(numbers).encode("utf-8") + numbers.pick([b"\r\n", b"\r\r\n", b" "])
             calls.key_somewhere(numbers, damaged_bytes(numbers, text))
 
-    return [maker.section(NO_LISTS, ill_formed)] + refused_by_lists(maker)
+    return [maker.section(NO_LISTS, ill_formed)] + refused_by_lists(maker, WITH_LISTS)
 
 
-def refused_by_lists(maker):
+# A text and its answer where the lists are good.
+WITH_LISTS = [
+    (b"\r\r\n", (10, 0)), (b"a\r\n", b"a\n"), (b"\xff\r\r\n", (2, 0, 1)), (b"\r\r\n\xff", (2, 3, 1)), (b"\r\n'/", (6, 1)), (b"'/\r\r\n", (10, 2)),
+    ("\u00c1\r\r\n".encode("utf-8"), (10, 2)), ("\u00c1\r\n\u4e00".encode("utf-8"), "\u00c1\n\u4e00".encode("utf-8")),
+]
+
+
+def refused_by_lists(maker, texts):
     """A list that breaks a rule comes before everything that is wrong with the text; with good lists each text has its own answer."""
-    texts = [
-        (b"\r\r\n", (10, 0)), (b"a\r\n", b"a\n"), (b"\xff\r\r\n", (2, 0, 1)), (b"\r\r\n\xff", (2, 3, 1)), (b"\r\n'/", (6, 1)), (b"'/\r\r\n", (10, 2)),
-        ("\u00c1\r\r\n".encode("utf-8"), (10, 2)), ("\u00c1\r\n\u4e00".encode("utf-8"), "\u00c1\n\u4e00".encode("utf-8")),
-    ]
 
     def fill(which, index):
         def one(calls):

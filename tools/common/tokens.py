@@ -3,13 +3,14 @@
 What the Rust can say comes from the oracle. The Rust has no word for a refusal: there the
 rules of the scope paper are applied here, in the plainest way and in the paper's order. The
 Rust has no lines either: request W5 says what they are, and line_at counts them. The key is
-taken of the text with each CR LF replaced by LF (request W3); all other calls read the lent text.
+taken of the text with each CR LF replaced by LF (request W3), and refused where a mark of direction
+stands in the text (request W6); all other calls read the lent text.
 """
 
 import itertools
 
 from common.ending import fail
-from common.keys import first_broken, first_doubled, key_of, pieces, replaced, with_cr_lf
+from common.keys import first_broken, first_doubled, first_hidden, key_of, pieces, replaced, with_cr_lf
 from common.lists import bad_index
 from common.packing import (
     ANSWER_LIMIT, GUARDED, KEY, LIST, MOST_ROOM, ONE, RAW, RECORDS, SHEBANG, SLOTS, TOKENS, TOKEN_SIZE, VERDICT,
@@ -234,6 +235,8 @@ class Calls:
             refused = self.refusal(3, text)
             if refused is None and first_doubled(text) is not None:
                 refused = numbers_of(10, first_doubled(text), 0)
+            if refused is None and first_hidden(text) is not None:
+                refused = numbers_of(11, first_hidden(text), 0)
             self.keys[text] = self.keyed_replaced(replaced(text)) if refused is None else (refused, None)
             self.check_keyed(text)
         return self.keys[text]
