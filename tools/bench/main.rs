@@ -11,7 +11,8 @@
 //! All sides take bytes. "key" is the key into a lent buffer; 000 has none, so there it is 000's
 //! `tokenize` and, in the same pass, the key by the scope paper's words, in plain Rust. It is the key of the
 //! text with each CR LF as LF: a text without a CR is read as it is, another is first written so into a
-//! buffer that is kept. (Another checkout may key the text as it stands: then it does less.) "tokens" is the
+//! buffer that is kept. A text with a mark of direction has no key: 000 does not look for them, so there a
+//! search comes first. (Another checkout may key the text as it stands: then it does less.) "tokens" is the
 //! kind, suffix, length, start and line of every token into a lent buffer; 000 has no lines, so there the
 //! LFs of each token are counted, in plain Rust. (Another checkout may have records without lines: then it
 //! does less.) "check" is what comes before the tokens: UTF-8 and the rules of the lists, for 000
@@ -60,6 +61,18 @@ fn is_broken(kind: TokenKind) -> bool {
     }
 }
 
+/// Whether one of the nine marks of direction stands in the text. Each has three bytes, of which the first is E2.
+fn has_hidden(text: &str) -> bool {
+    let mut rest = text.as_bytes();
+    while let Some(at) = memchr(0xE2, rest) {
+        if matches!(rest[at + 1..at + 3], [0x80, 0xAA..=0xAE] | [0x81, 0xA6..=0xA9]) {
+            return true;
+        }
+        rest = &rest[at + 3..];
+    }
+    false
+}
+
 /// The text with each CR LF as LF, in the buffer where that is not the text itself. `None` where it has CR CR LF.
 fn replaced<'a>(text: &'a str, buffer: &'a mut String) -> Option<&'a str> {
     let Some(mut at) = memchr(b'\r', text.as_bytes()) else {
@@ -87,7 +100,11 @@ fn replaced<'a>(text: &'a str, buffer: &'a mut String) -> Option<&'a str> {
 
 /// The bytes of the key. `None` where there is none, or where it has no room.
 fn their_key(bytes: &[u8], buffer: &mut String, out: &mut [u8]) -> Option<usize> {
-    let text = replaced(std::str::from_utf8(bytes).ok()?, buffer)?;
+    let text = std::str::from_utf8(bytes).ok()?;
+    if has_hidden(text) {
+        return None;
+    }
+    let text = replaced(text, buffer)?;
     let (mut at, mut used, mut gap) = (0, 0, false);
     for token in rustc_lexer::tokenize(text, rustc_lexer::FrontmatterAllowed::No) {
         let next = at + token.len as usize;
