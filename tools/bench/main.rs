@@ -11,7 +11,7 @@
 //! All sides take bytes. "key" is the key into a lent buffer; 000 has none, so there it is 000's
 //! `tokenize` and, in the same pass, the key by the scope paper's words, in plain Rust. It is the key of the
 //! text with each CR LF as LF: a text without a CR is read as it is, another is first written so into a
-//! buffer that is kept. A text with a mark of direction has no key: 000 does not look for them, so there a
+//! buffer that is kept. A text with a hidden direction mark has no key: 000 does not look for them, so there a
 //! search comes first. (Another checkout may key the text as it stands: then it does less.) "tokens" is the
 //! kind, suffix, length, start and line of every token into a lent buffer; 000 has no lines, so there the
 //! LFs of each token are counted, in plain Rust. (Another checkout may have records without lines: then it
@@ -61,7 +61,7 @@ fn is_broken(kind: TokenKind) -> bool {
     }
 }
 
-/// Whether one of the nine marks of direction stands in the text. Each has three bytes, of which the first is E2.
+/// Whether one of the nine hidden direction marks stands in the text. Each has three bytes, of which the first is E2.
 fn has_hidden(text: &str) -> bool {
     let mut rest = text.as_bytes();
     while let Some(at) = memchr(0xE2, rest) {

@@ -1,4 +1,4 @@
-"""Which vectors of operation 17, the key call, are stored, file by file: but those about ends of lines and about marks of direction.
+"""Which vectors of operation 17, the key call, are stored, file by file: but those about ends of lines and about hidden direction marks.
 
 Those are made in common/line_end_files.py and common/mark_files.py. tools/oracle/README.md describes all of them.
 """

@@ -17,7 +17,7 @@ import re
 
 from common.ending import fail
 
-# The marks of direction: the embeddings, their end and the overrides, then the isolates and their end.
+# The hidden direction marks: the embeddings, their end and the overrides, then the isolates and their end.
 HIDDEN = "\u202a\u202b\u202c\u202d\u202e\u2066\u2067\u2068\u2069"
 HIDDEN_BYTES = re.compile(rb"\xe2(\x80[\xaa-\xae]|\x81[\xa6-\xa9])")
 
@@ -47,7 +47,7 @@ def first_doubled(text):
 
 
 def first_hidden(text):
-    """The place of the first mark of direction in a lent text that is UTF-8, or None."""
+    """The place of the first hidden direction mark in a lent text that is UTF-8, or None."""
     found, place = None, 0
     for character in text.decode("utf-8"):
         if character in HIDDEN:
@@ -57,7 +57,7 @@ def first_hidden(text):
     # A second witness: the bytes of the marks, wherever they stand.
     seen = HIDDEN_BYTES.search(text)
     if found != (None if seen is None else seen.start()):
-        fail(f"two ways of finding a mark of direction differ: {text.hex()}")
+        fail(f"two ways of finding a hidden direction mark differ: {text.hex()}")
     return found
 
 

@@ -1,4 +1,4 @@
-"""Which vectors of operation 17 are about marks of direction. tools/oracle/README.md describes them.
+"""Which vectors of operation 17 are about hidden direction marks. tools/oracle/README.md describes them.
 
 A text that has one of the nine marks, wherever it stands, is refused as 11 with the place of the first in the lent text
 (document 02, W6): after 3, 2 and 10, and before 6 and 7. The texts here are those at which such a search goes wrong: at the
@@ -347,5 +347,5 @@ def make(oracle, real):
         "key-marks-lists.vec": lists(maker),
         "key-marks-refused.vec": refused(maker),
     }
-    print(f"marks of direction: answers that begin {maker.begun()}", file=sys.stderr)
+    print(f"hidden direction marks: answers that begin {maker.begun()}", file=sys.stderr)
     return files

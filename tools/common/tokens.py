@@ -3,7 +3,7 @@
 What the Rust can say comes from the oracle. The Rust has no word for a refusal: there the
 rules of the scope paper are applied here, in the plainest way and in the paper's order. The
 Rust has no lines either: request W5 says what they are, and line_at counts them. The key is
-taken of the text with each CR LF replaced by LF (request W3), and refused where a mark of direction
+taken of the text with each CR LF replaced by LF (request W3), and refused where a hidden direction mark
 stands in the text (request W6); all other calls read the lent text.
 """
 
