@@ -37,6 +37,16 @@ static bool load(const char *name) {
     return has.number == LOVEMUDARN_DONE;
 }
 
+/* The name of the hidden direction mark at a place of the text. Each has three bytes: E2 80 and AA to AE, or E2 81 and A6 to A9. */
+static const char *mark_name(size_t at) {
+    static const char *const names[] = {
+        "U+202A LEFT-TO-RIGHT EMBEDDING", "U+202B RIGHT-TO-LEFT EMBEDDING", "U+202C POP DIRECTIONAL FORMATTING", "U+202D LEFT-TO-RIGHT OVERRIDE",
+        "U+202E RIGHT-TO-LEFT OVERRIDE", "U+2066 LEFT-TO-RIGHT ISOLATE", "U+2067 RIGHT-TO-LEFT ISOLATE", "U+2068 FIRST STRONG ISOLATE",
+        "U+2069 POP DIRECTIONAL ISOLATE",
+    };
+    return names[text[at + 1] == 0x80 ? text[at + 2] - 0xAA : text[at + 2] - 0xA6 + 5];
+}
+
 /* A refusal in words, for these calls; the header has all numbers. */
 static int explain(struct lovemudarn_answer a) {
     switch (a.number) {
@@ -48,6 +58,10 @@ static int explain(struct lovemudarn_answer a) {
         break;
     case LOVEMUDARN_DOUBLE_RETURN:
         fprintf(stderr, "refused 10: a line ends with CR CR LF at byte %zu; write LF or CR LF\n", a.beside);
+        break;
+    case LOVEMUDARN_HIDDEN_MARK: /* its name is written, and not the mark itself, which would change how this line is shown */
+        fprintf(stderr, "refused 11: a hidden direction mark, %s, stands at byte %zu; delete it, or in a string write it as an escape\n", mark_name(a.beside),
+                a.beside);
         break;
     case LOVEMUDARN_BROKEN_TOKEN: /* a place in the replaced text */
         fprintf(stderr, "refused 6: the literal or comment that begins at byte %zu (each CR LF counted as one) does not end\n", a.beside);
@@ -107,8 +121,13 @@ int main(int argc, char **argv) {
         fputs(n > MOST ? "this example takes 65536 bytes\n" : "standard input cannot be read\n", stderr);
         return 2;
     }
+    /* The key call is lent the text as it is: it replaces CR LF itself. That CR CR LF or a hidden direction mark stands in it, in a shebang too, no list and no blank below
+     * may hide: so these two are told first. */
+    struct lovemudarn_answer a = lovemudarn_key(text, n, LISTS, key, MOST);
+    if (a.number == LOVEMUDARN_DOUBLE_RETURN || a.number == LOVEMUDARN_HIDDEN_MARK)
+        return explain(a);
     /* rustc takes a shebang away before it looks for tokens: a comment or a string that seems to begin in one would hide rules. Blanks in its place keep every position. */
-    struct lovemudarn_answer a = lovemudarn_strip_shebang(text, n);
+    a = lovemudarn_strip_shebang(text, n);
     if (a.number != LOVEMUDARN_DONE)
         return explain(a);
     memset(text, ' ', a.beside); /* 0 where there is none */
@@ -123,7 +142,6 @@ int main(int argc, char **argv) {
                 at, argc > 1 ? "newer" : "Unicode's");
         return 1;
     }
-    /* the key call is lent the text as it is: it replaces CR LF itself, and refuses CR CR LF */
     a = lovemudarn_key(text, n, LISTS, key, MOST);
     if (a.number != LOVEMUDARN_DONE)
         return explain(a);

@@ -14,6 +14,11 @@
  * LINE ENDS. THE KEY IS OF THE REPLACED TEXT: from the left, each CR LF (0D 0A) becomes LF, each byte used once. A CR alone stays. So a text and the same text
  * with CR LF line ends have one key, and no key has a CR LF. The calls on tokens, shebangs and strings read the text as it was lent, CR and all.
  *
+ * HIDDEN MARKS. Nine characters set the direction of what follows them and cannot be seen: U+202A LEFT-TO-RIGHT EMBEDDING, U+202B RIGHT-TO-LEFT EMBEDDING, U+202C
+ * POP DIRECTIONAL FORMATTING, U+202D LEFT-TO-RIGHT OVERRIDE, U+202E RIGHT-TO-LEFT OVERRIDE, U+2066 LEFT-TO-RIGHT ISOLATE, U+2067 RIGHT-TO-LEFT ISOLATE, U+2068
+ * FIRST STRONG ISOLATE, U+2069 POP DIRECTIONAL ISOLATE. A line with such a mark may be shown in another order than it is read. A TEXT WITH ONE HAS NO KEY,
+ * wherever the mark stands, in a comment or a string too; and no key has one. The other calls read a mark as any other character.
+ *
  * LISTS. `starts`, `continues` and `emoji` are the code points from 0x80 on that start an identifier, go on in one, and are emoji: a low and a high code
  * point in turn, both included. Rules: at most LOVEMUDARN_MAX_PAIRS pairs; an even count of numbers; low <= high <= 0x10FFFF; low >= 0x80; each low above
  * the high before it; no pair covers a surrogate, U+0085, U+200E, U+200F, U+2028 or U+2029. AN EMPTY LIST (count 0) is a good list: then no character from
@@ -24,7 +29,7 @@
  * in the middle of one.
  *
  * ANSWERS. Every answer begins with three numbers: `number` is 0 (done) or the number of the refusal, `beside` and `second` are the numbers beside it.
- * A number that is not named below is 0. The refusals are checked in this order: 1, 9, 3, 2, 4, 8, 10, 6, 5, 7, and the first that holds is given; a call
+ * A number that is not named below is 0. The refusals are checked in this order: 1, 9, 3, 2, 4, 8, 10, 11, 6, 5, 7, and the first that holds is given; a call
  * checks what it uses and nothing else. A REFUSAL WRITES NOTHING: a run or buffer that was lent keeps every element. After success the elements past the
  * answer keep their values.
  */
@@ -58,6 +63,8 @@ extern "C" {
 #define LOVEMUDARN_BAD_LINE 9u     /* a line of the file of lists is bad; beside: the number of the first, from 0 */
 #define LOVEMUDARN_DOUBLE_RETURN 10u /* the text has CR CR LF (0D 0D 0A) somewhere, and so no key: it would leave a CR LF in the key, which a second keying would
                                         change. Beside: the start of the first, in the text as it was lent; of CR CR CR LF it is that of the second CR */
+#define LOVEMUDARN_HIDDEN_MARK 11u   /* the text has a hidden direction mark (HIDDEN MARKS) somewhere, and so no key: a line with it may be shown in another order
+                                        than it is read. Beside: the start of the first, in the text as it was lent; the character there tells which it is */
 
 /* The cause beside LOVEMUDARN_NOT_UTF8. The bytes of the sequence are judged from the left: the first that is wrong decides, or the end of the text where it
  * comes before that. */
@@ -264,8 +271,8 @@ struct lovemudarn_run_answer lovemudarn_tokens_from(const uint8_t *text, size_t 
                                                     const uint32_t *continues, size_t continues_len, const uint32_t *emoji, size_t emoji_len, size_t at,
                                                     bool on, uint32_t *slots, size_t slots_len);
 
-/* The key of a text: 1, 3, 2, 10, 6, 7, or 0 with the bytes of the key beside it. It is the key of the replaced text (LINE ENDS), and at most as long as that;
- * 6 has a place in the replaced text beside it, 2 and 10 one in the text as it was lent. A key that is keyed again comes out as it is. */
+/* The key of a text: 1, 3, 2, 10, 11, 6, 7, or 0 with the bytes of the key beside it. It is the key of the replaced text (LINE ENDS), and at most as long as that;
+ * 6 has a place in the replaced text beside it, 2, 10 and 11 one in the text as it was lent. A key that is keyed again comes out as it is. */
 struct lovemudarn_answer lovemudarn_key(const uint8_t *text, size_t text_len, const uint32_t *starts, size_t starts_len, const uint32_t *continues,
                                         size_t continues_len, const uint32_t *emoji, size_t emoji_len, uint8_t *out, size_t out_len);
 

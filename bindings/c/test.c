@@ -675,6 +675,212 @@ static void test_line_ends(void) {
     answer("shebang before CR CR LF", lovemudarn_strip_shebang(TEXT("#!a\r\r\nb")), LOVEMUDARN_DONE, 4, 0);
 }
 
+/* Document 02, W6: the nine hidden direction marks. A name, and three bytes. */
+struct character {
+    const char *name;
+    const char *bytes;
+};
+static const struct character marks[] = {
+    {"U+202A", "\342\200\252"}, {"U+202B", "\342\200\253"}, {"U+202C", "\342\200\254"}, {"U+202D", "\342\200\255"}, {"U+202E", "\342\200\256"},
+    {"U+2066", "\342\201\246"}, {"U+2067", "\342\201\247"}, {"U+2068", "\342\201\250"}, {"U+2069", "\342\201\251"},
+};
+#define MARKS (sizeof marks / sizeof marks[0])
+
+/* characters of three bytes that are none: those next to the marks, and such as have two bytes of one; no list of this test holds one */
+static const struct character no_marks[] = {
+    {"U+202F", "\342\200\257"}, {"U+2065", "\342\201\245"}, {"U+206A", "\342\201\252"}, {"U+206E", "\342\201\256"}, {"U+2025", "\342\200\245"}, {"U+2026", "\342\200\246"},
+    {"U+2027", "\342\200\247"}, {"U+2060", "\342\201\240"}, {"U+200B", "\342\200\213"}, {"U+20AA", "\342\202\252"}, {"U+20A6", "\342\202\246"}, {"U+102A", "\341\200\252"},
+    {"U+1066", "\341\201\246"}, {"U+302A", "\343\200\252"}, {"U+3066", "\343\201\246"},
+};
+/* blanks that are none */
+static const struct character blank_marks[] = {
+    {"U+2028", "\342\200\250"}, {"U+2029", "\342\200\251"}, {"U+200E", "\342\200\216"}, {"U+200F", "\342\200\217"},
+};
+
+/* what stands before and after a mark in a text. In each of these, and wherever a second mark stands in it, the place is the length of what is before. */
+static const struct {
+    const char *name;
+    const uint8_t *before;
+    size_t len;
+    const uint8_t *after;
+    size_t after_len;
+} frames[] = {
+    {" alone", TEXT(""), TEXT("")},
+    {" first", TEXT(""), TEXT("x = 1;")},
+    {" last", TEXT("x = 1;"), TEXT("")},
+    {" between blanks", TEXT(" \n"), TEXT("\t ")},
+    {" in a name", TEXT("ab"), TEXT("c")},
+    {" in a name past ASCII", TEXT("\303\251"), TEXT("\303\251")},
+    {" in a number", TEXT("1"), TEXT("2")},
+    {" in a line comment", TEXT("a // b"), TEXT("c\nd")},
+    {" at the end of a line comment", TEXT("a //"), TEXT("\n")},
+    {" in a block comment", TEXT("/* a "), TEXT(" */")},
+    {" in a nested comment", TEXT("/* /*"), TEXT("*/ */")},
+    {" in a comment for documents", TEXT("/// a"), TEXT("\nb")},
+    {" in a block for documents", TEXT("/**"), TEXT("*/")},
+    {" in a string", TEXT("x = \"a"), TEXT("b\";")},
+    {" in a raw string", TEXT("r#\"\""), TEXT("\"#")},
+    {" in a byte string", TEXT("b\""), TEXT("\"")},
+    {" in single quotes", TEXT("'"), TEXT("'")},
+    {" after a backslash", TEXT("'\\"), TEXT("'")},
+    {" after hashes", TEXT("r##"), TEXT("")},
+    {" in a shebang", TEXT("#!"), TEXT("\nx")},
+    {" in frontmatter", TEXT("---\n"), TEXT("\n---\n")},
+    /* the place is one in the text as it was lent */
+    {" after CR LF", TEXT("a\r\nb\r\n"), TEXT(";\r\n")},
+    {" after CR LF in a string", TEXT("\"\r\n\r\n"), TEXT("\"\r\n")},
+    {" between CR and LF", TEXT("\r"), TEXT("\n")},
+    {" after CR CR", TEXT("\r\r"), TEXT("\r\n")},
+    {" after characters past ASCII", TEXT("\302\205\342\202\254\360\237\230\200"), TEXT("")},
+    {" after U+2029 and before U+202F", TEXT("\342\200\251"), TEXT("\342\200\257")},
+    {" after U+2065 and before U+206A", TEXT("\342\201\245"), TEXT("\342\201\252")},
+    {" after E2 80 AA of others", TEXT("\342\200\246\342\201\252\343\200\252"), TEXT("")},
+    {" after NUL", TEXT("\0\0"), TEXT("\0")},
+    /* before a broken token, wherever it starts */
+    {" before an open string", TEXT(""), TEXT("\"")},
+    {" in an open string", TEXT("x = \""), TEXT("")},
+    {" in an open comment", TEXT("/*"), TEXT("/**/")},
+    {" after an open character", TEXT("'/ "), TEXT("")},
+    {" in an open raw string", TEXT("r#\"a"), TEXT("\"")},
+};
+
+static uint8_t marked[64];
+
+/* before, a character of three bytes, after: the bytes of the text that is now in `marked` */
+static size_t frame(const uint8_t *before, size_t len, const char *bytes, const uint8_t *after, size_t after_len) {
+    for (size_t i = 0; i < len; i += 1) marked[i] = before[i];
+    for (size_t i = 0; i < 3; i += 1) marked[len + i] = (uint8_t)bytes[i];
+    for (size_t i = 0; i < after_len; i += 1) marked[len + 3 + i] = after[i];
+    return len + 3 + after_len;
+}
+#define FRAME(before, bytes, after) frame(TEXT(before), bytes, TEXT(after))
+
+/* no list decides which characters are marks: this one holds all nine, and their neighbours */
+static const uint32_t held[2] = {0x202A, 0x206A};
+
+static void no_mark_key(const char *what, size_t len, size_t place) {
+    fill_out();
+    answer(what, lovemudarn_key(marked, len, NO_LISTS, out, 32), LOVEMUDARN_HIDDEN_MARK, place, 0);
+    answer(what, lovemudarn_key(marked, len, NO_LISTS, out, 0), LOVEMUDARN_HIDDEN_MARK, place, 0);
+    answer(what, lovemudarn_key(marked, len, LIST(held), LIST(held), LIST(held), out, 32), LOVEMUDARN_HIDDEN_MARK, place, 0);
+    key_holds(what, "", 0);
+}
+
+/* a text of `len` bytes in `marked` that has this key, and so has the key */
+static void mark_key(const char *what, size_t len, const uint8_t *key, size_t key_len) {
+    one_key(what, marked, len, key, key_len);
+    one_key(what, key, key_len, key, key_len);
+}
+
+/* what the key call refuses, and in which order */
+static void test_mark_refusals(void) {
+    same("hidden mark", "its number", LOVEMUDARN_HIDDEN_MARK, 11);
+    for (size_t i = 0; i < MARKS; i += 1) {
+        of = marks[i].name;
+        for (size_t j = 0; j < sizeof frames / sizeof frames[0]; j += 1)
+            no_mark_key(frames[j].name, frame(frames[j].before, frames[j].len, marks[i].bytes, frames[j].after, frames[j].after_len), frames[j].len);
+
+        /* the first of two, whichever they are */
+        no_mark_key(" before others", FRAME("a // ", marks[i].bytes, "\342\201\246\n\342\200\256"), 5);
+        for (size_t j = 0; j < MARKS; j += 1)
+            no_mark_key(" before another", frame((const uint8_t *)marks[i].bytes, 3, marks[j].bytes, (const uint8_t *)"", 0), 0);
+
+        /* 3, 2 and 10 before it, wherever they stand */
+        size_t len = FRAME("a", marks[i].bytes, "b");
+        fill_out();
+        answer(": 3 before 11", lovemudarn_key(marked, len, LIST(half), NONE, NONE, out, 32), LOVEMUDARN_BAD_LIST, LOVEMUDARN_LIST_STARTS, 1);
+        answer(": 3 before 11", lovemudarn_key(marked, len, LIST(held), NONE, LIST(low), out, 32), LOVEMUDARN_BAD_LIST, LOVEMUDARN_LIST_EMOJI, 0);
+        answer(": 2 after it", lovemudarn_key(marked, FRAME("a", marks[i].bytes, "\377"), NO_LISTS, out, 32), LOVEMUDARN_NOT_UTF8, 4, LOVEMUDARN_CAUSE_START);
+        answer(": 2 before it", lovemudarn_key(marked, FRAME("\303", marks[i].bytes, ""), NO_LISTS, out, 32), LOVEMUDARN_NOT_UTF8, 0, LOVEMUDARN_CAUSE_FOLLOW);
+        answer(": a cut mark after it", lovemudarn_key(marked, FRAME("", marks[i].bytes, "\342\200"), NO_LISTS, out, 32), LOVEMUDARN_NOT_UTF8, 3, LOVEMUDARN_CAUSE_CUT);
+        answer(": cut", lovemudarn_key(marked, FRAME("ab", marks[i].bytes, "") - 1, NO_LISTS, out, 32), LOVEMUDARN_NOT_UTF8, 2, LOVEMUDARN_CAUSE_CUT);
+        answer(": its last byte alone", lovemudarn_key(marked + 2, FRAME("", marks[i].bytes, "") - 2, NO_LISTS, out, 32), LOVEMUDARN_NOT_UTF8, 0,
+               LOVEMUDARN_CAUSE_START);
+        answer(": 10 after it", lovemudarn_key(marked, FRAME("a", marks[i].bytes, "\r\r\n"), NO_LISTS, out, 32), LOVEMUDARN_DOUBLE_RETURN, 4, 0);
+        answer(": 10 before it", lovemudarn_key(marked, FRAME("a\r\r\n", marks[i].bytes, ""), NO_LISTS, out, 32), LOVEMUDARN_DOUBLE_RETURN, 1, 0);
+        answer(": 10 after it in a comment", lovemudarn_key(marked, FRAME("// ", marks[i].bytes, "\r\n\"\r\r\n"), NO_LISTS, out, 0), LOVEMUDARN_DOUBLE_RETURN, 9, 0);
+        key_holds(": what comes before it", "", 0);
+
+        /* at each place of a longer text */
+        for (size_t place = 0; place < 40; place += 1) {
+            for (size_t j = 0; j < sizeof marked; j += 1) marked[j] = j % 7 == 3 ? '\n' : 'x';
+            for (size_t j = 0; j < 3; j += 1) marked[place + j] = (uint8_t)marks[i].bytes[j];
+            answer(" at a place", lovemudarn_key(marked, 48, NO_LISTS, out, 32), LOVEMUDARN_HIDDEN_MARK, place, 0);
+        }
+    }
+    of = "";
+}
+
+/* what is no mark has a key, and so has the advice: a mark that is written as an escape */
+static void test_no_marks(void) {
+    for (size_t i = 0; i < sizeof no_marks / sizeof no_marks[0]; i += 1) {
+        of = no_marks[i].name;
+        size_t len = FRAME("\"a", no_marks[i].bytes, "b\"");
+        one_key(" in a string", marked, len, marked, len);
+        len = FRAME("/// ", no_marks[i].bytes, "\n");
+        one_key(" in a comment for documents", marked, len, marked, len);
+        len = FRAME("'", no_marks[i].bytes, "'");
+        one_key(" in single quotes", marked, len, marked, len);
+        len = FRAME("a", no_marks[i].bytes, "b");
+        one_key(" in a name", marked, len, marked, len);
+        len = FRAME("", no_marks[i].bytes, "");
+        one_key(" alone", marked, len, marked, len);
+        mark_key(" in a comment", FRAME("a // ", no_marks[i].bytes, "\r\nb"), TEXT("a\nb"));
+    }
+    for (size_t i = 0; i < sizeof blank_marks / sizeof blank_marks[0]; i += 1) {
+        of = blank_marks[i].name;
+        size_t len = FRAME("\"a", blank_marks[i].bytes, "b\"");
+        one_key(" in a string", marked, len, marked, len);
+        mark_key(" in a name", FRAME("a", blank_marks[i].bytes, "b"), TEXT("a\nb"));
+        mark_key(" alone", FRAME("", blank_marks[i].bytes, ""), TEXT("\n"));
+        mark_key(" in a comment", FRAME("a /* ", blank_marks[i].bytes, " */b"), TEXT("a\nb"));
+    }
+    of = "";
+    KEY("x = \"\\u{202e}\";", "x\n=\n\"\\u{202e}\";");
+    KEY("'\\u{2066}' // U+2066", "'\\u{2066}'\n");
+}
+
+/* the other calls read a mark as any other character, and know nothing of 11 */
+static void test_marked_tokens(void) {
+    static const uint32_t apart[15] = {NAME, 0, 1, 0, 0, LOVEMUDARN_KIND_UNKNOWN, 0, 3, 1, 0, NAME, 0, 1, 4, 0};
+    static const uint32_t one_name[5] = {NAME, 0, 5, 0, 0};
+    for (size_t i = 0; i < MARKS; i += 1) {
+        of = marks[i].name;
+        size_t len = FRAME("a", marks[i].bytes, "b");
+        fill_run();
+        answer(": tokens", lovemudarn_tokens(marked, len, NO_LISTS, false, run, 60), LOVEMUDARN_DONE, 3, 0);
+        holds(": tokens", apart, 15);
+        fill_run();
+        RAN(": from", lovemudarn_tokens_from(marked, len, NO_LISTS, 1, false, run, 60), 2, 5, false);
+        holds(": from", apart + 5, 10);
+        fill_run();
+        answer(": tokens with lists that hold it", lovemudarn_tokens(marked, len, LIST(held), LIST(held), NONE, false, run, 60), LOVEMUDARN_DONE, 1, 0);
+        holds(": tokens with lists that hold it", one_name, 5);
+        given(": a token", lovemudarn_token(marked, len, NO_LISTS, 1, false), LOVEMUDARN_KIND_UNKNOWN, 0, 3, 1, 0, false);
+        answer(": check", lovemudarn_check(marked, len, NO_LISTS), LOVEMUDARN_DONE, 0, 0);
+        answer(": is_ident", lovemudarn_is_ident(marked, len, NONE, NONE), LOVEMUDARN_DONE, 0, 0);
+        answer(": is_ident with lists", lovemudarn_is_ident(marked, len, NONE, LIST(held)), LOVEMUDARN_DONE, 1, 0);
+        given(": a string", lovemudarn_token(marked, FRAME("\"", marks[i].bytes, "\""), NO_LISTS, 0, false), LITERAL(LOVEMUDARN_LITERAL_STR, 1), 5, 5, 0, 0, false);
+        given(": a comment", lovemudarn_token(marked, FRAME("//", marks[i].bytes, "\n"), NO_LISTS, 0, false), LOVEMUDARN_KIND_LINE_COMMENT, 0, 5, 0, 0, false);
+        given(": frontmatter", lovemudarn_token(marked, FRAME("---\n", marks[i].bytes, "\n---"), NO_LISTS, 0, true), LOVEMUDARN_KIND_FRONTMATTER, 0, 11, 0, 0, false);
+        answer(": a shebang", lovemudarn_strip_shebang(marked, FRAME("#!", marks[i].bytes, "\nb")), LOVEMUDARN_DONE, 5, 0);
+    }
+    of = "";
+}
+
+static void test_hidden_marks(void) {
+    test_mark_refusals();
+    test_no_marks();
+    test_marked_tokens();
+
+    /* a long text, and a mark at its end */
+    const size_t most = 131072;
+    for (size_t i = 0; i < most; i += 1) long_text[i] = i % 3 == 0 ? ';' : i % 3 == 1 ? '\r' : '\n';
+    for (size_t i = 0; i < 3; i += 1) long_text[most - 3 + i] = (uint8_t)marks[4].bytes[i];
+    answer("a mark at the end of a long text", lovemudarn_key(long_text, most, NO_LISTS, long_key, sizeof long_key), LOVEMUDARN_HIDDEN_MARK, most - 3, 0);
+    answer("a long text without it", lovemudarn_key(long_text, most - 3, NO_LISTS, long_key, 0), LOVEMUDARN_SHORT_BUFFER, 87380, 0);
+}
+
 static void test_is_ident(void) {
     answer("is_ident: nothing", lovemudarn_is_ident(TEXT(""), NONE, NONE), LOVEMUDARN_DONE, 0, 0);
     answer("is_ident: a1", lovemudarn_is_ident(TEXT("a1"), NONE, NONE), LOVEMUDARN_DONE, 1, 0);
@@ -1254,6 +1460,7 @@ int main(void) {
     test_lines();
     test_key();
     test_line_ends();
+    test_hidden_marks();
     test_is_ident();
     test_strip_shebang();
     test_validate_raw_str();
