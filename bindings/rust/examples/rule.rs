@@ -11,8 +11,8 @@ use std::process::ExitCode;
 use std::{env, fs};
 
 use lovemudarn::{
-    Cursor, FrontmatterAllowed, Lists, LoadedLists, Refusal, Token, key, needs_newer_lists,
-    strip_shebang,
+    Cursor, FrontmatterAllowed, Lists, LoadedLists, Refusal, Token, key, mark_name,
+    needs_newer_lists, strip_shebang,
 };
 
 fn main() -> ExitCode {
@@ -32,6 +32,17 @@ fn main() -> ExitCode {
     if let Err(error) = io::stdin().read_to_end(&mut text) {
         eprintln!("standard input cannot be read: {error}");
         return ExitCode::from(2);
+    }
+    // CR CR LF and hidden direction marks are told first, in a shebang too: no lists help there. A mark is told
+    // by its name, for the mark itself would change how the line is shown.
+    if let Err(refusal @ (Refusal::DoubleReturn { at } | Refusal::HiddenMark { at })) =
+        key(&text, &lists)
+    {
+        let status = refused(refusal);
+        if let Some(name) = mark_name(&text, at) {
+            eprintln!("the mark is {name}");
+        }
+        return status;
     }
     // rustc takes a shebang away before it looks for tokens: a comment or a string that seems to begin in
     // one would hide rules. Blanks in its place keep every position.

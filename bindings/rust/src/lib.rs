@@ -26,6 +26,9 @@
 //! **Line ends do not change a key**: it is of the text in which each CR LF is LF, as rustc reads it ([`key`]).
 //! The calls on tokens read a text as it is lent.
 //!
+//! **A text with a hidden direction mark has no key**: an editor may show a line with it in another order than
+//! it is read ([`Refusal::HiddenMark`]).
+//!
 //! No call panics, whatever the text, the lists and the numbers are: what has no answer is refused by
 //! a [`Refusal`]. Texts are bytes (`&str`, `&[u8]`, ..), and a text that is not UTF-8 is refused.
 
@@ -36,6 +39,7 @@ mod cursor;
 mod kinds;
 mod line_ends;
 mod lists;
+mod marks;
 mod raw;
 mod refusal;
 
@@ -45,6 +49,7 @@ pub use kinds::{
 };
 pub use line_ends::lent_place;
 pub use lists::{Held, Lists, LoadedLists, MAX_PAIRS, Version, needs_lists, needs_newer_lists};
+pub use marks::mark_name;
 pub use refusal::{Cause, ListName, Refusal};
 
 // Every unsafe block of this crate is one call of the archive, for the same reason: each pointer with its
@@ -213,6 +218,7 @@ pub fn advance_token(
 /// assert_eq!(key("/// a\r\nx = \"\r\n\";\r\n", lists)?, b"/// a\nx\n=\n\"\n\";\n");
 /// assert_eq!(key("/// a\nx = \"\n\";\n", lists)?, b"/// a\nx\n=\n\"\n\";\n");
 /// assert_eq!(key("a;\r\r\nb;", lists), Err(Refusal::DoubleReturn { at: 2 }));
+/// assert_eq!(key("a; // \u{202e}", lists), Err(Refusal::HiddenMark { at: 6 }));
 /// # Ok::<(), Refusal>(())
 /// ```
 ///
@@ -221,8 +227,9 @@ pub fn advance_token(
 /// others than rustc's, and a change may be missed: key a text so only where [`needs_lists`] finds no place
 /// in it.** Keys of lists that hold different code points are not comparable.
 ///
-/// Refused are 1, 3, 2, then 10 where CR CR LF stands in the text, and 6 where a literal or a block comment
-/// of the replaced text is broken.
+/// Refused are 1, 3, 2, then 10 where CR CR LF stands in the text, 11 where a hidden direction mark does (U+202A
+/// to U+202E, U+2066 to U+2069; in a comment or a string too), and 6 where a literal or a block comment of the
+/// replaced text is broken.
 pub fn key(text: impl AsRef<[u8]>, lists: &Lists) -> Result<Vec<u8>, Refusal> {
     let text = text.as_ref();
     // A key is never longer than its text.
@@ -234,7 +241,7 @@ pub fn key(text: impl AsRef<[u8]>, lists: &Lists) -> Result<Vec<u8>, Refusal> {
 
 /// Writes the [`key`] of a text into a buffer and gives its bytes. Bytes past it keep their values.
 ///
-/// Refused are 1, 3, 2, 10, 6, and 7 with the bytes of the key; then nothing is written.
+/// Refused are 1, 3, 2, 10, 11, 6, and 7 with the bytes of the key; then nothing is written.
 pub fn key_into(text: impl AsRef<[u8]>, lists: &Lists, out: &mut [u8]) -> Result<usize, Refusal> {
     let text = text.as_ref();
     // SAFETY: slices borrowed for the call, `out` uniquely; see the head of this file.

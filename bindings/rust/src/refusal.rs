@@ -143,6 +143,14 @@ pub enum Refusal {
         /// Where the first one starts, in the text that was lent. Of CR CR CR LF it is the second CR.
         at: usize,
     },
+    /// 11: the text has no key, for a hidden direction mark stands in it, in a comment or a string maybe: one
+    /// of U+202A to U+202E and U+2066 to U+2069. An editor may show a line with such a mark in another order
+    /// than it is read.
+    HiddenMark {
+        /// Where the first one starts, in the text that was lent. [`mark_name`](crate::mark_name) tells which
+        /// it is.
+        at: usize,
+    },
     /// The archive gave an answer that this crate does not know: the two are of different
     /// versions.
     Unknown {
@@ -169,19 +177,21 @@ impl Refusal {
             Refusal::Prefix => 8,
             Refusal::Line { .. } => 9,
             Refusal::DoubleReturn { .. } => 10,
+            Refusal::HiddenMark { .. } => 11,
             Refusal::Unknown { number, .. } => number,
         }
     }
 
-    /// The place in the text, in bytes from its beginning, where the refusal names one (2, 4, 6, 10). That
-    /// of 6 is one in the replaced text, in which each CR LF is one byte:
+    /// The place in the text, in bytes from its beginning, where the refusal names one (2, 4, 6, 10, 11).
+    /// That of 6 is one in the replaced text, in which each CR LF is one byte:
     /// [`lent_place`](crate::lent_place) gives the same place in the text that was lent.
     pub fn place(self) -> Option<usize> {
         match self {
             Refusal::NotUtf8 { at, .. }
             | Refusal::Position { at }
             | Refusal::Broken { at }
-            | Refusal::DoubleReturn { at } => Some(at),
+            | Refusal::DoubleReturn { at }
+            | Refusal::HiddenMark { at } => Some(at),
             _ => None,
         }
     }
@@ -224,6 +234,7 @@ impl Refusal {
             8 => Refusal::Prefix,
             9 => Refusal::Line { line: beside },
             10 => Refusal::DoubleReturn { at: beside },
+            11 => Refusal::HiddenMark { at: beside },
             _ => unknown,
         }
     }
@@ -295,6 +306,12 @@ impl fmt::Display for Refusal {
                 "the text has no key: at byte {at} (counted from 0) stands CR CR LF; write this line end as \
                  LF or CR LF"
             ),
+            Refusal::HiddenMark { at } => write!(
+                f,
+                "the text has no key: at byte {at} (counted from 0) stands a hidden direction mark (U+202A to \
+                 U+202E, U+2066 to U+2069), and a line with it may be shown in another order than it is read; \
+                 delete it, or write it as an escape in a string"
+            ),
             Refusal::Unknown { number: _, beside, second } => write!(
                 f,
                 "this version of the crate does not know the answer (beside it: {beside}, {second}); \
@@ -312,7 +329,7 @@ mod tests {
 
     #[test]
     fn numbers_go_both_ways() {
-        for number in 1..=10 {
+        for number in 1..=11 {
             for (beside, second) in [(0, 1), (1, 2), (2, 3)] {
                 for of in [Refusal::of, Refusal::of_reader] {
                     let refusal = of(number, beside, second);
@@ -324,7 +341,7 @@ mod tests {
         for pair in [0, 7, crate::MAX_PAIRS] {
             assert_eq!(Refusal::of(3, 2, pair), Refusal::List { list: ListName::Emoji, pair });
         }
-        for (number, beside) in [(0, 0), (3, 3), (11, 1), (u32::MAX, usize::MAX)] {
+        for (number, beside) in [(0, 0), (3, 3), (12, 1), (u32::MAX, usize::MAX)] {
             for of in [Refusal::of, Refusal::of_reader] {
                 let refusal = of(number, beside, 1);
                 assert!(matches!(refusal, Refusal::Unknown { .. }));
@@ -366,9 +383,9 @@ mod tests {
 
     #[test]
     fn places() {
-        for number in 1..=10 {
+        for number in 1..=11 {
             let refusal = Refusal::of(number, 1, 3);
-            assert_eq!(refusal.place(), [2, 4, 6, 10].contains(&number).then_some(1));
+            assert_eq!(refusal.place(), [2, 4, 6, 10, 11].contains(&number).then_some(1));
             assert_eq!(refusal.needed(), [5, 7].contains(&number).then_some(1));
             assert_eq!(refusal.cause(), (number == 2).then_some(Cause::Follow));
         }
@@ -376,7 +393,7 @@ mod tests {
 
     #[test]
     fn each_says_its_number() {
-        for number in 1..=11 {
+        for number in 1..=12 {
             for of in [Refusal::of, Refusal::of_reader] {
                 let said = of(number, 2, 17).to_string();
                 assert!(said.starts_with(&format!("refusal {number}: ")), "{said}");
@@ -388,6 +405,16 @@ mod tests {
         assert!(said.contains("at byte 41 (counted from 0) stands CR CR LF; "), "{said}");
         assert!(said.ends_with("write this line end as LF or CR LF"), "{said}");
         assert_eq!(Refusal::of(10, 41, 0), Refusal::DoubleReturn { at: 41 });
+        let said = Refusal::of(11, 41, 0).to_string();
+        assert!(
+            said.contains(
+                "at byte 41 (counted from 0) stands a hidden direction mark (U+202A to U+202E, U+2066 to \
+                 U+2069), "
+            ),
+            "{said}"
+        );
+        assert!(said.ends_with("; delete it, or write it as an escape in a string"), "{said}");
+        assert_eq!(Refusal::of(11, 41, 0), Refusal::HiddenMark { at: 41 });
         assert!(
             Refusal::of(3, 2, 17)
                 .to_string()

@@ -143,10 +143,19 @@ fn their_tokens(text: &str, frontmatter: FrontmatterAllowed) -> Vec<Token> {
         .collect()
 }
 
+/// The hidden direction marks.
+const MARKS: &[char] = &[
+    '\u{202a}', '\u{202b}', '\u{202c}', '\u{202d}', '\u{202e}', '\u{2066}', '\u{2067}', '\u{2068}',
+    '\u{2069}',
+];
+
 /// The key by the scope paper's words, over their tokens of the text in which each CR LF is LF.
 fn their_key(text: &str) -> Result<Vec<u8>, Refusal> {
     if let Some(at) = text.find("\r\r\n") {
         return Err(Refusal::DoubleReturn { at });
+    }
+    if let Some(at) = text.find(MARKS) {
+        return Err(Refusal::HiddenMark { at });
     }
     let text = &text.replace("\r\n", "\n");
     let tokens = their_tokens(text, FrontmatterAllowed::No);
@@ -186,11 +195,11 @@ impl Chance {
 #[rustfmt::skip]
 const PIECES: &[&str] = &[
     // blanks and comments
-    " ", "\n", "\t", "\r\n", "\r", "\r\r\n", "\\\r\n", "\u{85}", "\u{200e}", "\u{2028}", "\u{b}", "//", "///", "//!", "////", "/*",
+    " ", "\n", "\t", "\r\n", "\r", "\r\r\n", "\\\r\n", "\u{85}", "\u{200e}", "\u{2028}", "\u{2029}", "\u{b}", "//", "///", "//!", "////", "/*",
     "*/", "/**", "/*!", "/***", "/**/", "/", "*", "!", "// a\n", "/// b\n", "/* c */", "/** d */", "/*! e */", "/*/",
     // words
     "a", "r", "b", "c", "k", "br", "cr", "rb", "e", "E", "_", "x", "fn", "é", "日本", "ß", "r#a", "k#fn", "'a", "'r#a",
-    "\u{301}", "\u{200d}", "😀", "👩\u{200d}💻", "№", "\u{feff}", "\0",
+    "\u{301}", "\u{200d}", "\u{202f}", "\u{2065}", "\u{206a}", "😀", "👩\u{200d}💻", "№", "\u{feff}", "\0",
     // quotes
     "'", "\"", "\\", "\\\\", "\\\"", "\\'", "#", "##", "###", "'a'", "'\\n'", "'''", "\"a\"", "b'a'", "b\"a\"",
     "c\"a\"", "r\"a\"", "r#\"a\"#", "br##\"a\"##", "cr#\"", "\"#", "\"##", "~",
@@ -232,13 +241,24 @@ fn raw_string(chance: &mut Chance) -> String {
 }
 
 fn any_text(chance: &mut Chance) -> String {
-    match chance.below(16) {
+    let text = match chance.below(16) {
         0..4 => characters(chance),
         4 | 5 => raw_string(chance),
         6 => format!("#!{}", fragments(chance)),
         7 => format!("---{}", fragments(chance)),
         _ => fragments(chance),
+    };
+    marked(text, chance)
+}
+
+/// The text, now and then with a hidden direction mark somewhere in it.
+fn marked(mut text: String, chance: &mut Chance) -> String {
+    if chance.below(12) == 0 {
+        let places: Vec<usize> =
+            text.char_indices().map(|(at, _)| at).chain([text.len()]).collect();
+        text.insert(chance.pick(&places), chance.pick(MARKS));
     }
+    text
 }
 
 // ---- lists ----
@@ -291,6 +311,9 @@ struct Count {
     /// Of these, how many are of a text with CR LF.
     replaced: usize,
     double_returns: usize,
+    /// Texts with a hidden direction mark, and how many of them have it inside a longer token.
+    marks: usize,
+    marks_inside: usize,
     broken: usize,
     ill_formed: usize,
     /// Of these, how many of each cause.
@@ -340,6 +363,12 @@ fn compare(text: &str, lists: &Lists, count: &mut Count) {
             );
         }
         Err(Refusal::DoubleReturn { .. }) => count.double_returns += 1,
+        Err(Refusal::HiddenMark { at }) => {
+            count.marks += 1;
+            let starts = |token: &Token| token.start == at && token.len == 3;
+            let alone = their_tokens(text, FrontmatterAllowed::No).iter().any(starts);
+            count.marks_inside += usize::from(!alone);
+        }
         Err(_) => count.broken += 1,
     }
     assert_eq!(lovemudarn::strip_shebang(text), Ok(rustc_lexer::strip_shebang(text)), "{text:?}");
@@ -476,7 +505,7 @@ fn the_same_as_rustcs_lexer() {
         // Long ones.
         for _ in 0..20 {
             let text: String = (0..200).map(|_| chance.pick(PIECES)).collect();
-            compare(&text, &lists, &mut count);
+            compare(&marked(text, &mut chance), &lists, &mut count);
         }
         // Longer than several blocks of the cursor.
         for _ in 0..40 {
@@ -493,7 +522,7 @@ fn the_same_as_rustcs_lexer() {
         }
     }
     println!(
-        "{} texts, {} tokens, {} of them past the first line, {} strings after hashes, {} keys, {} of them of texts with CR LF, {} with CR CR LF, {} broken, {} ill-formed by cause {:?}: all agree",
+        "{} texts, {} tokens, {} of them past the first line, {} strings after hashes, {} keys, {} of them of texts with CR LF, {} with CR CR LF, {} with hidden marks ({} inside a token), {} broken, {} ill-formed by cause {:?}: all agree",
         count.texts,
         count.tokens,
         count.later,
@@ -501,6 +530,8 @@ fn the_same_as_rustcs_lexer() {
         count.keys,
         count.replaced,
         count.double_returns,
+        count.marks,
+        count.marks_inside,
         count.broken,
         count.ill_formed,
         count.causes
@@ -510,6 +541,9 @@ fn the_same_as_rustcs_lexer() {
     }
     for seen in [count.replaced, count.double_returns] {
         assert!(seen * 200 > count.texts, "too few line ends to tell");
+    }
+    for seen in [count.marks, count.marks_inside] {
+        assert!(seen * 100 > count.texts, "too few hidden marks to tell");
     }
     for seen in count.causes {
         assert!(seen * 400 > count.texts, "too few of a cause to tell");

@@ -127,6 +127,41 @@ fn a_refusal_is_explained() {
     assert!(said.starts_with("refusal 10: ") && said.contains(" at byte 10 "), "{said}");
 }
 
+/// A mark is told by its name and never printed, whatever else is wrong with the text and whatever the lists are.
+#[test]
+fn a_hidden_mark_is_explained() {
+    for (text, at, name) in [
+        ("x = 5; // \u{202e}", 10, "U+202E RIGHT-TO-LEFT OVERRIDE"),
+        ("x = \"\u{2066}5\u{2069}\";", 5, "U+2066 LEFT-TO-RIGHT ISOLATE"),
+        // Outside of comments and strings a mark is a token that lists may judge; no lists mend it.
+        ("a\u{202a}b", 1, "U+202A LEFT-TO-RIGHT EMBEDDING"),
+        ("'\u{1c89} \"' // limit 5\u{2069}\"", 18, "U+2069 POP DIRECTIONAL ISOLATE"),
+        ("r#\u{1c89}\u{2067}", 5, "U+2067 RIGHT-TO-LEFT ISOLATE"),
+        // Before a broken token; with CR LF, the place in the text as it is.
+        ("a;\r\nb = \"\u{202d}", 9, "U+202D LEFT-TO-RIGHT OVERRIDE"),
+        // Blanks in the place of a shebang do not hide it.
+        ("#!/bin/\u{202c}run\nx = 5;\n", 7, "U+202C POP DIRECTIONAL FORMATTING"),
+    ] {
+        for (status, out, said) in [run(text), run_with(LISTS, text)] {
+            assert_eq!((status, out.as_str()), (Some(1), ""));
+            assert!(said.starts_with("refusal 11: "), "{said:?}");
+            assert!(said.contains(&format!(" at byte {at} (counted from 0) ")), "{said:?}");
+            assert!(said.ends_with(&format!("\nthe mark is {name}\n")), "{said:?}");
+            assert!(said.is_ascii(), "{said:?}");
+        }
+    }
+    // CR CR LF is told before it, and likewise; a text that is not UTF-8 is told before both.
+    for (text, start) in [
+        (&b"\xe2\x80\xae\xc3\xa9\r\r\n"[..], "refusal 10: "),
+        (b"#!\r\r\n\xe2\x80\xae\xc3\xa9", "refusal 10: "),
+        (b"\xe2\x80\xae\r\r\n\xff", "refusal 2: "),
+    ] {
+        let (status, out, said) = run(text);
+        assert_eq!((status, out.as_str()), (Some(1), ""));
+        assert!(said.starts_with(start) && said.lines().count() == 1, "{said:?}");
+    }
+}
+
 /// A text with CR LF line ends has the key of its twin; its tokens are those of the text as it is.
 #[test]
 fn line_ends_change_no_key() {

@@ -94,6 +94,12 @@ fn line_ends() {
         ("'\\\nx'\"'é'\"", None),
         // CR CR LF has no key, but it has tokens.
         ("a\r\r\né", Some(4)),
+        // Nor has a hidden direction mark: it is a character as others are, and needs no lists where they need none.
+        ("\u{202e}", Some(0)),
+        ("a\r\nb\u{2066}", Some(4)),
+        ("'\u{202a}a'", Some(1)),
+        ("r#\u{2069}", Some(2)),
+        ("'\u{202e}' \"\u{2067}\" // \u{202c}\r\n/* \u{2068} */", None),
     ] {
         assert_eq!(needs_lists(text), Ok(place), "{text:?}");
     }

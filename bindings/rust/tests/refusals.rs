@@ -7,8 +7,8 @@ use common::{UNTOUCHED, by_rust, every_call_refuses};
 use lovemudarn::{
     Cause, Cursor, FrontmatterAllowed::No, ListName, Lists, MAX_PAIRS, NUMBERS_OF_A_TOKEN, Refusal,
     Run, advance_token, check, guarded_double_quoted_string, is_emoji_char, is_id_continue,
-    is_id_start, is_ident, key, key_into, lent_place, needs_lists, strip_shebang, token_of,
-    tokenize, tokenize_into, tokens_from, validate_raw_str,
+    is_id_start, is_ident, key, key_into, lent_place, mark_name, needs_lists, strip_shebang,
+    token_of, tokenize, tokenize_into, tokens_from, validate_raw_str,
 };
 
 const NONE: &Lists = &Lists::EMPTY;
@@ -288,6 +288,110 @@ fn double_returns_have_no_key() {
     assert_eq!(key(b"\r\r\n\xff", NONE), Err(refusal));
     let refusal = Refusal::NotUtf8 { at: 6, cause: Cause::Cut };
     assert_eq!(key(b"a\r\r\n\r\n\xe2\x82", NONE), Err(refusal));
+}
+
+/// The hidden direction marks of document 02, W6, with what stands in their names.
+const MARKS: [(char, &str); 9] = [
+    ('\u{202a}', "LEFT-TO-RIGHT EMBEDDING"),
+    ('\u{202b}', "RIGHT-TO-LEFT EMBEDDING"),
+    ('\u{202c}', "POP DIRECTIONAL FORMATTING"),
+    ('\u{202d}', "LEFT-TO-RIGHT OVERRIDE"),
+    ('\u{202e}', "RIGHT-TO-LEFT OVERRIDE"),
+    ('\u{2066}', "LEFT-TO-RIGHT ISOLATE"),
+    ('\u{2067}', "RIGHT-TO-LEFT ISOLATE"),
+    ('\u{2068}', "FIRST STRONG ISOLATE"),
+    ('\u{2069}', "POP DIRECTIONAL ISOLATE"),
+];
+
+/// Each place is one in the text that is lent. X is the mark.
+#[test]
+fn hidden_marks_have_no_key() {
+    for (mark, name) in MARKS {
+        for text in [
+            "X",
+            "Xx = 1;",
+            "x = 1; X",
+            "aXb",
+            "éXé",
+            "1X2",
+            " X\n",
+            // The first of several.
+            "aXbX\u{202e}\u{2066}",
+            // In tokens, and in what a key drops.
+            "\"X\"",
+            "r#\"X\"#",
+            "'X'",
+            "// aX\nb",
+            "/* X */",
+            "/// X\n",
+            "#!X\nb",
+            "---\nX\n---\n",
+            // With CR LF, and with CR alone.
+            "a\r\nb\r\nX\r\n",
+            "\"\r\n\r\nX\"",
+            "\rX\n",
+            "\r\rX\r\n",
+            // After its neighbours.
+            "\u{2029}\u{202f}\u{2065}\u{206a}X",
+            // Before a broken token.
+            "X\"",
+            "\"X",
+            "/*X",
+            "'/ X",
+            "r##X",
+        ] {
+            let (at, text) = (text.find('X').unwrap(), &text.replace('X', &mark.to_string()));
+            let refusal = Refusal::HiddenMark { at };
+            assert_eq!((refusal.number(), refusal.place()), (11, Some(at)));
+            assert_eq!(key(text, NONE), Err(refusal), "{text:?}");
+            // Before too little room; and nothing is written.
+            let mut out = *b"0123456789";
+            for room in [0, 10] {
+                assert_eq!(key_into(text, NONE, &mut out[..room]), Err(refusal), "{text:?}");
+            }
+            assert_eq!(&out, b"0123456789");
+            // Whatever the lists are.
+            let all: &[u32] = &[0x202A, 0x206A];
+            let lists = Lists { id_start: all, id_continue: all, emoji: all };
+            assert_eq!(key(text, &lists), Err(refusal), "{text:?}");
+            let full = format!("U+{:04X} {name}", u32::from(mark));
+            assert_eq!(mark_name(text, at), Some(full.as_str()), "{text:?}");
+            // The other calls know nothing of it.
+            assert_eq!(check(text, NONE), Ok(()));
+            assert!(tokenize(text, No, NONE).is_ok() && strip_shebang(text).is_ok());
+        }
+        // After lists, bytes and CR CR LF, wherever they stand.
+        let bad = Lists { emoji: &[1], ..Lists::EMPTY };
+        let refusal = Refusal::List { list: ListName::Emoji, pair: 0 };
+        assert_eq!(key(mark.to_string(), &bad), Err(refusal));
+        let of = |before: &[u8], after: &[u8]| {
+            key([before, mark.to_string().as_bytes(), after].concat(), NONE)
+        };
+        let refusal = Refusal::NotUtf8 { at: 3, cause: Cause::Start };
+        assert_eq!(of(b"", b"\xff"), Err(refusal));
+        let refusal = Refusal::NotUtf8 { at: 4, cause: Cause::Cut };
+        assert_eq!(of(b"a", b"\xe2\x80"), Err(refusal));
+        let refusal = Refusal::NotUtf8 { at: 0, cause: Cause::Follow };
+        assert_eq!(of(b"\xe2\x80", b""), Err(refusal));
+        assert_eq!(of(b"a", b"b\r\r\n"), Err(Refusal::DoubleReturn { at: 5 }));
+        assert_eq!(of(b"\r\r\n", b""), Err(Refusal::DoubleReturn { at: 0 }));
+    }
+}
+
+/// What is no mark has a key, which is its own: each other character, in a string.
+#[test]
+fn other_characters_have_a_key() {
+    for c in '\0'..=char::MAX {
+        let text = format!("\"{}\"", if c == '"' || c == '\\' { 'a' } else { c });
+        if MARKS.iter().any(|&(mark, _)| mark == c) {
+            assert_eq!(key(&text, NONE), Err(Refusal::HiddenMark { at: 1 }), "{text:?}");
+        } else {
+            assert_eq!(key(&text, NONE).as_deref(), Ok(text.as_bytes()), "{text:?}");
+        }
+    }
+    // The advice: a mark that is written as an escape.
+    let text = "x = \"\\u{202e}\"; // U+202E";
+    assert_eq!(key(text, NONE).as_deref(), Ok(&b"x\n=\n\"\\u{202e}\";\n"[..]));
 }
 
 /// The place of a broken token is one in the replaced text, whose tokens count; and so do the bytes of its key.
