@@ -15,7 +15,7 @@ use Rattle.refusal.specs.declared.Cause.{Cause}
 use Rattle.text.specs.Utf8.{decoded}
 use Rattle.text.specs.Chars.{chars}
 use Rattle.text.proofs.Places.{char-chars, end-chars, ill-chars}
-use Rattle.eaters.specs.Find.{Place, at, nowhere, further, find}
+use Rattle.eaters.specs.Find.{at, nowhere, further, find}
 use Rattle.places.specs.declared.Found.the-variants.{At, Nowhere}
 use Rattle.line_ends.specs.LineEnds.{crLf, doubleAt, doubleReturn}
 use Rattle.places.specs.Found.{foundAt}

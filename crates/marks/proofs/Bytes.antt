@@ -1,6 +1,6 @@
 -- HIDDEN MARKS BY THEIR BYTES: each begins with E2; and in a text of UTF-8 the first place at which one stands, of all places, is the place of the first
 -- character that is one.
-use Prim.Native.Nat.{ℕ, zero, suc, _+_, _/_, _≤_, _<_}
+use Prim.Native.Nat.{ℕ, zero, suc, _+_, _≤_}
 use mathlib.Core.Path.{_≡_, refl, sym, ap, _∙_}
 use mathlib.Core.Bool.{Bool, true, false}
 use mathlib.Core.List.{List, [], _∷_, _++_}
@@ -9,15 +9,16 @@ use lib.Seq.{getD-drop}
 use borrow.Author.Tests.{lt-ltb, le-ltb}
 use native.Mathlib.Omega.{arith}
 use Rattle.basics.specs.Choice.{pick}
-use Rattle.basics.proofs.Choices.{Within, within-true}
+use Rattle.basics.proofs.Choices.{within-true}
 use Rattle.text.specs.declared.Decoded.{Decoded}
 use Rattle.text.specs.declared.Decoded.the-variants.{Char, End, Ill}
 use Rattle.text.specs.Utf8.{decoded}
 use Rattle.text.specs.Chars.{chars, width, size, encodeOne, WellFormed}
 use Rattle.text.proofs.Coding.{Fact}
 use Rattle.text.proofs.Texts.{told, by-chars}
-use Rattle.text.proofs.Positions.{Shape, shape}
-use Rattle.eaters.specs.Find.{Place, at, nowhere, find}
+use Rattle.text.proofs.Positions.{shape}
+use Rattle.eaters.specs.Find.{at, nowhere, find}
+use Rattle.eaters.proofs.Firsts.{First, Never, find-first, find-never}
 use Rattle.places.proofs.Searches.{shifted, shifted-none, shifted-more, NoneBefore, none-before, found-here, none-here}
 use Rattle.marks.specs.Marks.{hidden, markFrom, hiddenMark}
 use Rattle.marks.specs.Front.{isMark, markAt}
@@ -90,3 +91,10 @@ mark-places = by-chars (λ (s : List ℕ). WellFormed s → (p : ℕ) → shifte
 
 pub mark-place : (s : List ℕ) → WellFormed s → find markAt s ≡ hiddenMark s
 mark-place s v = sym (shifted-none (find markAt s)) ∙ mark-places s v 0
+
+-- so that a mark stands at the place beside 11, and none before it; and none anywhere in a text that is not refused so
+pub mark-first : (s : List ℕ) {k : ℕ} → WellFormed s → hiddenMark s ≡ at k → First markAt s k
+mark-first s v e = find-first markAt s (mark-place s v ∙ e)
+
+pub mark-never : (s : List ℕ) → WellFormed s → hiddenMark s ≡ nowhere → Never markAt s
+mark-never s v e = find-never markAt s (mark-place s v ∙ e)

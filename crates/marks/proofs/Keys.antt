@@ -1,6 +1,6 @@
 -- A KEY HAS NO HIDDEN MARK where its text has none (document 02, W6): its characters are the text's and newlines.
 use Prim.Native.Nat.{ℕ, _+_}
-use mathlib.Core.Path.{_≡_, refl, sym, ap, _∙_}
+use mathlib.Core.Path.{_≡_, refl, ap, _∙_}
 use mathlib.Core.Bool.{Bool, true, false, not}
 use mathlib.Core.List.{List, [], _∷_, _++_}
 use borrow.Author.Tests.{eqb-true}
@@ -8,8 +8,8 @@ use native.Mathlib.Omega.{arith}
 use Rattle.basics.specs.Choice.{pick, and}
 use Rattle.basics.proofs.Choices.{and-1, and-2, and-both}
 use Rattle.text.specs.Chars.{chars, width, WellFormed}
-use Rattle.eaters.specs.Find.{Place, at, nowhere}
-use Rattle.token.specs.Names.{is, 'newline', 'carriage-return'}
+use Rattle.eaters.specs.Find.{at, nowhere}
+use Rattle.token.specs.Names.{is, 'carriage-return'}
 use Rattle.token.specs.Lists.{Lists}
 use Rattle.canon.specs.Key.{keyOf}
 use Rattle.canon.proofs.Canon.{key-chars}

@@ -1,13 +1,22 @@
--- Whether a character is a hidden mark, by its range.
+-- Whether a character is a hidden mark.
 use Prim.Native.Nat.{ℕ, _≤_, _<_}
-use mathlib.Core.Path.{_≡_, sym}
+use mathlib.Core.Path.{_≡_, refl, sym}
 use mathlib.Core.Bool.{Bool, true, false}
+use mathlib.Core.List.{[], _∷_}
 use native.Mathlib.Omega.{arith}
 use Rattle.basics.specs.Choice.{or}
-use Rattle.basics.specs.Tests.{within}
+use Rattle.basics.specs.Tests.{within, all}
 use Rattle.basics.proofs.Choices.{Within, within-true, inside-within, under-within, over-within}
-use Rattle.marks.specs.Marks.{hidden}
+use Rattle.marks.specs.Marks.{hidden, noMarks}
 
+-- THE NINE of document 02, W6, and their neighbours
+pub nine-marks : all hidden (0x202A ∷ 0x202B ∷ 0x202C ∷ 0x202D ∷ 0x202E ∷ 0x2066 ∷ 0x2067 ∷ 0x2068 ∷ 0x2069 ∷ []) ≡ true
+nine-marks = refl
+
+pub neighbours : noMarks (0x2029 ∷ 0x202F ∷ 0x2065 ∷ 0x206A ∷ []) ≡ true
+neighbours = refl
+
+-- BY ITS RANGE
 module _ (c : ℕ) where
   pub before-marks : c < 0x202A → false ≡ hidden c
   before-marks h = sym (rw (under-within 0x202A 0x202E c h, under-within 0x2066 0x2069 c (omega arith)))
