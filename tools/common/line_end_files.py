@@ -216,17 +216,22 @@ def of_ends(numbers):
     return with_ends(numbers, numbers.pick(MAKERS)(numbers))
 
 
+def distinct(numbers, make, count, wanted):
+    """So many random texts, no two alike, that are wanted and not long."""
+    seen = set()
+    while len(seen) < count:
+        text = make(numbers).encode("utf-8")
+        if text not in seen and len(text) <= 120 and wanted(text):
+            seen.add(text)
+            yield text
+
+
 def fragments(maker):
     """Each text, and the same with LF and with CR LF alone: one key, or one place of a broken token."""
     numbers = Numbers(SEED)
 
     def fill(calls):
-        seen = set()
-        while len(seen) < RANDOM_TEXTS:
-            text = of_ends(numbers).encode("utf-8")
-            if text in seen or b"\r\n" not in text or len(text) > 120:
-                continue
-            seen.add(text)
+        for text in distinct(numbers, of_ends, RANDOM_TEXTS, lambda text: b"\r\n" in text):
             calls.key_somewhere(numbers, text)
             if b"\r\r\n" not in text:
                 one_key(calls, numbers, text)

@@ -13,7 +13,7 @@ from common.chance import Numbers
 from common.ending import fail
 from common.key_files import airy
 from common.keys import HIDDEN, with_cr_lf
-from common.line_end_files import answered, by_hand, check, of_ends, refused_by_lists
+from common.line_end_files import answered, by_hand, check, distinct, of_ends, refused_by_lists
 from common.line_files import airy_lines
 from common.lists import EVERYTHING, NO_LISTS, flat
 from common.packing import MOST_ROOM
@@ -255,12 +255,7 @@ def fragments(maker):
     numbers = Numbers(SEED)
 
     def fill(calls):
-        seen = set()
-        while len(seen) < RANDOM_TEXTS:
-            text = of_marks(numbers).encode("utf-8")
-            if text in seen or len(text) > 120:
-                continue
-            seen.add(text)
+        for text in distinct(numbers, of_marks, RANDOM_TEXTS, lambda text: True):
             calls.key_somewhere(numbers, text)
             said = answered(calls, text)
             if isinstance(said, tuple) and said[0] == 11:

@@ -242,6 +242,20 @@ fn broken_tokens_have_no_key() {
     }
 }
 
+/// The key call refuses a text, before too little room too, and writes nothing; the calls on tokens know
+/// nothing of it.
+fn has_tokens_and_no_key(text: &str, refusal: Refusal, number: u32, at: usize) {
+    assert_eq!((refusal.number(), refusal.place()), (number, Some(at)));
+    assert_eq!(key(text, NONE), Err(refusal), "{text:?}");
+    let mut out = *b"0123456789";
+    for room in [0, 10] {
+        assert_eq!(key_into(text, NONE, &mut out[..room]), Err(refusal), "{text:?}");
+    }
+    assert_eq!(&out, b"0123456789");
+    assert_eq!(check(text, NONE), Ok(()));
+    assert!(tokenize(text, No, NONE).is_ok());
+}
+
 /// Document 02, W3: each place is one in the text that is lent.
 #[test]
 fn double_returns_have_no_key() {
@@ -266,19 +280,9 @@ fn double_returns_have_no_key() {
         ("\"\r\r\n", 1),
         ("'/ /*\r\r\n", 5),
     ] {
-        let refusal = Refusal::DoubleReturn { at };
-        assert_eq!((refusal.number(), refusal.place()), (10, Some(at)));
-        assert_eq!(key(text, NONE), Err(refusal), "{text:?}");
-        // Before too little room; and nothing is written.
-        let mut out = *b"0123456789";
-        for room in [0, 10] {
-            assert_eq!(key_into(text, NONE, &mut out[..room]), Err(refusal), "{text:?}");
-        }
-        assert_eq!(&out, b"0123456789");
-        // The other calls know nothing of it.
-        assert_eq!(check(text, NONE), Ok(()));
+        has_tokens_and_no_key(text, Refusal::DoubleReturn { at }, 10, at);
         assert_eq!(needs_lists(text), Ok(text.starts_with('é').then_some(0)));
-        assert!(tokenize(text, No, NONE).is_ok() && strip_shebang(text) == Ok(None));
+        assert_eq!(strip_shebang(text), Ok(None));
     }
     // After lists and bytes.
     let bad = Lists { emoji: &[1], ..Lists::EMPTY };
@@ -342,23 +346,14 @@ fn hidden_marks_have_no_key() {
         ] {
             let (at, text) = (text.find('X').unwrap(), &text.replace('X', &mark.to_string()));
             let refusal = Refusal::HiddenMark { at };
-            assert_eq!((refusal.number(), refusal.place()), (11, Some(at)));
-            assert_eq!(key(text, NONE), Err(refusal), "{text:?}");
-            // Before too little room; and nothing is written.
-            let mut out = *b"0123456789";
-            for room in [0, 10] {
-                assert_eq!(key_into(text, NONE, &mut out[..room]), Err(refusal), "{text:?}");
-            }
-            assert_eq!(&out, b"0123456789");
+            has_tokens_and_no_key(text, refusal, 11, at);
             // Whatever the lists are.
             let all: &[u32] = &[0x202A, 0x206A];
             let lists = Lists { id_start: all, id_continue: all, emoji: all };
             assert_eq!(key(text, &lists), Err(refusal), "{text:?}");
             let full = format!("U+{:04X} {name}", u32::from(mark));
             assert_eq!(mark_name(text, at), Some(full.as_str()), "{text:?}");
-            // The other calls know nothing of it.
-            assert_eq!(check(text, NONE), Ok(()));
-            assert!(tokenize(text, No, NONE).is_ok() && strip_shebang(text).is_ok());
+            assert!(strip_shebang(text).is_ok());
         }
         // After lists, bytes and CR CR LF, wherever they stand.
         let bad = Lists { emoji: &[1], ..Lists::EMPTY };

@@ -1,6 +1,6 @@
 -- A KEY HAS NO HIDDEN MARK where its text has none (document 02, W6): its characters are the text's and newlines.
 use Prim.Native.Nat.{ℕ, _+_}
-use mathlib.Core.Path.{_≡_, refl, ap, _∙_}
+use mathlib.Core.Path.{_≡_, refl, sym, ap, _∙_}
 use mathlib.Core.Bool.{Bool, true, false, not}
 use mathlib.Core.List.{List, [], _∷_, _++_}
 use borrow.Author.Tests.{eqb-true}
@@ -47,22 +47,20 @@ replaced-marks (c ∷ cs) = go (crLf c cs) refl (replaced-marks cs)
         rw k i
     go false e i = ap (and (not (hidden c))) i
 
--- parts without marks, and parts joined
-no-front : (u a : List ℕ) → noMarks (u ++ a) ≡ true → noMarks u ≡ true
-no-front [] a h = refl
-no-front (c ∷ u) a h = and-both (and-1 (not (hidden c)) _ h) (no-front u a (and-2 (not (hidden c)) _ h))
-
-no-rest : (u a : List ℕ) → noMarks (u ++ a) ≡ true → noMarks a ≡ true
-no-rest [] a h = h
-no-rest (c ∷ u) a h = no-rest u a (and-2 (not (hidden c)) _ h)
-
-no-join : (u a : List ℕ) → noMarks u ≡ true → noMarks a ≡ true → noMarks (u ++ a) ≡ true
-no-join [] a h k = k
-no-join (c ∷ u) a h k = and-both (and-1 (not (hidden c)) _ h) (no-join u a (and-2 (not (hidden c)) _ h) k)
+-- two parts have none where neither has
+parts : (u a : List ℕ) → noMarks (u ++ a) ≡ and (noMarks u) (noMarks a)
+parts [] a = refl
+parts (c ∷ u) a = go (not (hidden c)) (parts u a)
+  where
+    go : (b : Bool) → noMarks (u ++ a) ≡ and (noMarks u) (noMarks a) → and b (noMarks (u ++ a)) ≡ and (and b (noMarks u)) (noMarks a)
+    go true i = i
+    go false i = refl
 
 -- a key of a text without them, for any lists
 key-none : (L : Lists) (s : List ℕ) → noMarks (chars s) ≡ true → noMarks (chars (keyOf L s)) ≡ true
-key-none L s h = ap noMarks (key-chars L s) ∙ kept-in-key (λ (l : List ℕ). noMarks l ≡ true) refl no-front no-rest no-join (λ cs k. k) L s h
+key-none L s h =
+    ap noMarks (key-chars L s)
+    ∙ kept-in-key (λ (l : List ℕ). noMarks l ≡ true) refl (λ u a k. and-1 (noMarks u) _ (sym (parts u a) ∙ k)) (λ u a k. and-2 (noMarks u) _ (sym (parts u a) ∙ k)) (λ u a k j. parts u a ∙ and-both k j) (λ cs k. k) L s h
 
 -- the characters of the replaced text have one exactly where the text's have
 pub replaced-none : (s : List ℕ) → WellFormed s → noMarks (chars (replaced s)) ≡ noMarks (chars s)
