@@ -2,6 +2,8 @@
 //
 // A class that needs a lent list comes twice: the call of the public (`is_id_start`), which takes any list and checks it, and the
 // test that scans use (`id_start`), which asks for a list that was checked. Any number may be handed in as a code point.
+#![tactic(auto)]
+
 ghost use Rattle.std.specs.Prelude.{◌≡◌, drop};
 ghost use Rattle.basics.specs.Tests.{all};
 ghost use Rattle.text.specs.Chars.{chars};
@@ -11,6 +13,7 @@ ghost use Rattle.classes.specs.Identifiers.{digit, id_start, id_continue, is_ide
 ghost use Rattle.classes.specs.Emoji.{emoji_char};
 ghost use Rattle.classes.specs.Answers.{answer_numbers, id_start_answer, id_continue_answer, emoji_answer, ident_verdict, ident_answer};
 
+use ranges::MAX_PAIRS;
 use refusal::{Bad, Numbers, Verdict};
 use text::{CodePoint, Decoded};
 
@@ -131,7 +134,7 @@ pub fn emoji_char(c: CodePoint, emoji: &[u32]) -> bool
 
 // PUBLIC. Whether c starts an identifier; refusal 3 where the list breaks a rule.
 pub fn is_id_start(c: CodePoint, starts: &[u32]) -> Answer
-    ensures* { do ⌜ result ≡ id_start_answer (← (⟦ranges::MAX_PAIRS⟧).entry) starts.now c ⌝ }
+    ensures { result ≡ id_start_answer MAX_PAIRS starts.now c }
 {
     match ranges::check_list(0, starts) {
         Verdict::Fine => Answer::Is(id_start(c, starts)),
@@ -141,7 +144,7 @@ pub fn is_id_start(c: CodePoint, starts: &[u32]) -> Answer
 
 // PUBLIC. Whether c goes on in an identifier; refusal 3 where the list breaks a rule.
 pub fn is_id_continue(c: CodePoint, continues: &[u32]) -> Answer
-    ensures* { do ⌜ result ≡ id_continue_answer (← (⟦ranges::MAX_PAIRS⟧).entry) continues.now c ⌝ }
+    ensures { result ≡ id_continue_answer MAX_PAIRS continues.now c }
 {
     match ranges::check_list(1, continues) {
         Verdict::Fine => Answer::Is(id_continue(c, continues)),
@@ -151,7 +154,7 @@ pub fn is_id_continue(c: CodePoint, continues: &[u32]) -> Answer
 
 // PUBLIC. Whether c is an emoji character; refusal 3 where the list breaks a rule.
 pub fn is_emoji_char(c: CodePoint, emoji: &[u32]) -> Answer
-    ensures* { do ⌜ result ≡ emoji_answer (← (⟦ranges::MAX_PAIRS⟧).entry) emoji.now c ⌝ }
+    ensures { result ≡ emoji_answer MAX_PAIRS emoji.now c }
 {
     match ranges::check_list(2, emoji) {
         Verdict::Fine => Answer::Is(emoji_char(c, emoji)),
@@ -200,7 +203,7 @@ fn ident(text: &[u8], starts: &[u32], continues: &[u32]) -> bool
 
 // What `is_ident` checks: 1, 3 for its two lists, 2.
 pub fn ident_verdict(text: &[u8], starts: &[u32], continues: &[u32]) -> Verdict
-    ensures* { do ⌜ result ≡ ident_verdict (← (⟦ranges::MAX_PAIRS⟧).entry) text.now starts.now continues.now ⌝ }
+    ensures { result ≡ ident_verdict MAX_PAIRS text.now starts.now continues.now }
 {
     let long = text::check_length(text);
     let first = ranges::check_list(0, starts);
@@ -212,7 +215,7 @@ pub fn ident_verdict(text: &[u8], starts: &[u32], continues: &[u32]) -> Verdict
 
 // PUBLIC. Whether a text is an identifier, as 000's `is_ident` says; refusals 1, 3 and 2 in this order.
 pub fn is_ident(text: &[u8], starts: &[u32], continues: &[u32]) -> Answer
-    ensures* { do ⌜ result ≡ ident_answer (← (⟦ranges::MAX_PAIRS⟧).entry) text.now starts.now continues.now ⌝ }
+    ensures { result ≡ ident_answer MAX_PAIRS text.now starts.now continues.now }
 {
     match ident_verdict(text, starts, continues) {
         Verdict::Fine => Answer::Is(ident(text, starts, continues)),

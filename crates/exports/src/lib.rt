@@ -25,6 +25,7 @@ ghost use Rattle.exports.specs.Files.{no_lists, held_out, lists_out, ListsOut, i
 use lexer::{OneToken, Scan};
 use lists_file::Version;
 use lists_in::{Held, ReadAnswer};
+use ranges::MAX_PAIRS;
 use refusal::{Numbers, Verdict};
 use strings::{GuardedAnswer, RawAnswer};
 use token::{Guarded, Offset, RawStr, RawStrError};
@@ -427,7 +428,7 @@ pub extern "C" fn lovemudarn_check(
     continues: &[u32],
     emoji: &[u32],
 ) -> Answer
-    ensures* { do ⌜ result ≡ answer_of (verdict_numbers (token_verdict (← (⟦ranges::MAX_PAIRS⟧).entry) text.now (lent starts.now continues.now emoji.now))) ⌝ }
+    ensures { result ≡ answer_of (verdict_numbers (token_verdict MAX_PAIRS text.now (lent starts.now continues.now emoji.now))) }
 {
     answer_of(refusal::verdict_numbers(lexer::token_verdict(text, starts, continues, emoji)))
 }
@@ -442,7 +443,7 @@ pub extern "C" fn lovemudarn_token(
     at: usize,
     on: bool,
 ) -> TokenAnswer
-    ensures* { do ⌜ result ≡ token_out (one_token (← (⟦ranges::MAX_PAIRS⟧).entry) text.now (lent starts.now continues.now emoji.now) at on) ⌝ }
+    ensures { result ≡ token_out (one_token MAX_PAIRS text.now (lent starts.now continues.now emoji.now) at on) }
 {
     token_out(lexer::advance_token(text, starts, continues, emoji, at, on))
 }
@@ -457,7 +458,7 @@ pub extern "C" fn lovemudarn_tokens(
     on: bool,
     slots: &mut [u32],
 ) -> Answer
-    ensures* { do ⌜ TokensOut (← (⟦ranges::MAX_PAIRS⟧).entry) text.now (lent starts.now continues.now emoji.now) on slots.old slots.new result ⌝ }
+    ensures { TokensOut MAX_PAIRS text.now (lent starts.now continues.now emoji.now) on slots.old slots.new result }
 {
     let answer = slots::tokens(text, starts, continues, emoji, on, slots);
     answer_of(plan::list_numbers(answer))
@@ -475,7 +476,7 @@ pub extern "C" fn lovemudarn_tokens_from(
     on: bool,
     slots: &mut [u32],
 ) -> RunAnswer
-    ensures* { do ⌜ RunOut (← (⟦ranges::MAX_PAIRS⟧).entry) text.now (lent starts.now continues.now emoji.now) at on slots.old slots.new result ⌝ }
+    ensures { RunOut MAX_PAIRS text.now (lent starts.now continues.now emoji.now) at on slots.old slots.new result }
 {
     match lexer::token_verdict(text, starts, continues, emoji) {
         Verdict::Fine => {
@@ -501,7 +502,7 @@ pub extern "C" fn lovemudarn_key(
     emoji: &[u32],
     out: &mut [u8],
 ) -> Answer
-    ensures* { do ⌜ KeyOut (← (⟦ranges::MAX_PAIRS⟧).entry) text.now (lent starts.now continues.now emoji.now) out.old out.new result ⌝ }
+    ensures { KeyOut MAX_PAIRS text.now (lent starts.now continues.now emoji.now) out.old out.new result }
 {
     let answer = key::key(text, starts, continues, emoji, out);
     answer_of(key::key_numbers(answer))
@@ -516,7 +517,7 @@ pub extern "C" fn lovemudarn_read_lists(
     continues: &mut [u32],
     emoji: &mut [u32],
 ) -> ListsAnswer
-    ensures* { do ⌜ ListsOut (← (⟦ranges::MAX_PAIRS⟧).entry) file.now starts.old continues.old emoji.old starts.new continues.new emoji.new result ⌝ }
+    ensures { ListsOut MAX_PAIRS file.now starts.old continues.old emoji.old starts.new continues.new emoji.new result }
 {
     let answer = lists_in::read_lists(file, starts, continues, emoji);
     read_out(answer)
@@ -534,7 +535,7 @@ pub extern "C" fn lovemudarn_write_lists(
     emoji: &[u32],
     out: &mut [u8],
 ) -> Answer
-    ensures* { do ⌜ FileOut (← (⟦ranges::MAX_PAIRS⟧).entry) major minor update (lent starts.now continues.now emoji.now) out.old out.new result ⌝ }
+    ensures { FileOut MAX_PAIRS major minor update (lent starts.now continues.now emoji.now) out.old out.new result }
 {
     if is_version(major, minor, update) {
         let version = version_of(major, minor, update);
@@ -551,7 +552,7 @@ pub extern "C" fn lovemudarn_write_lists(
 // Whether a text is an identifier: 1, 3, 2, or 0 with 1 for yes and 0 for no.
 #[unsafe(no_mangle)]
 pub extern "C" fn lovemudarn_is_ident(text: &[u8], starts: &[u32], continues: &[u32]) -> Answer
-    ensures* { do ⌜ result ≡ answer_of (answer_numbers (ident_answer (← (⟦ranges::MAX_PAIRS⟧).entry) text.now starts.now continues.now)) ⌝ }
+    ensures { result ≡ answer_of (answer_numbers (ident_answer MAX_PAIRS text.now starts.now continues.now)) }
 {
     answer_of(classes::answer_numbers(classes::is_ident(text, starts, continues)))
 }
@@ -581,7 +582,7 @@ pub extern "C" fn lovemudarn_guarded(
     continues: &[u32],
     at: usize,
 ) -> GuardedStrAnswer
-    ensures* { do ⌜ result ≡ guarded_out (guarded_answer (← (⟦ranges::MAX_PAIRS⟧).entry) text.now starts.now continues.now at) ⌝ }
+    ensures { result ≡ guarded_out (guarded_answer MAX_PAIRS text.now starts.now continues.now at) }
 {
     guarded_out(strings::guarded_double_quoted_string(text, starts, continues, at))
 }
@@ -604,21 +605,21 @@ pub extern "C" fn lovemudarn_is_horizontal_whitespace(c: u32) -> bool
 // The classes of a list: 3, or 0 with 1 for yes and 0 for no.
 #[unsafe(no_mangle)]
 pub extern "C" fn lovemudarn_is_id_start(c: u32, starts: &[u32]) -> Answer
-    ensures* { do ⌜ result ≡ answer_of (answer_numbers (id_start_answer (← (⟦ranges::MAX_PAIRS⟧).entry) starts.now c)) ⌝ }
+    ensures { result ≡ answer_of (answer_numbers (id_start_answer MAX_PAIRS starts.now c)) }
 {
     answer_of(classes::answer_numbers(classes::is_id_start(c, starts)))
 }
 
 #[unsafe(no_mangle)]
 pub extern "C" fn lovemudarn_is_id_continue(c: u32, continues: &[u32]) -> Answer
-    ensures* { do ⌜ result ≡ answer_of (answer_numbers (id_continue_answer (← (⟦ranges::MAX_PAIRS⟧).entry) continues.now c)) ⌝ }
+    ensures { result ≡ answer_of (answer_numbers (id_continue_answer MAX_PAIRS continues.now c)) }
 {
     answer_of(classes::answer_numbers(classes::is_id_continue(c, continues)))
 }
 
 #[unsafe(no_mangle)]
 pub extern "C" fn lovemudarn_is_emoji_char(c: u32, emoji: &[u32]) -> Answer
-    ensures* { do ⌜ result ≡ answer_of (answer_numbers (emoji_answer (← (⟦ranges::MAX_PAIRS⟧).entry) emoji.now c)) ⌝ }
+    ensures { result ≡ answer_of (answer_numbers (emoji_answer MAX_PAIRS emoji.now c)) }
 {
     answer_of(classes::answer_numbers(classes::is_emoji_char(c, emoji)))
 }

@@ -7,6 +7,7 @@ ghost use Rattle.key.specs.Answers.{key_numbers, CheckedKeying, Keying};
 
 use engine::Need;
 use places::Found;
+use ranges::MAX_PAIRS;
 use refusal::{Bad, Numbers, Verdict};
 
 // What the key call says: done, with the key's bytes; CR CR LF (10), with the place of the first in the text; a hidden direction mark (11), likewise; a
@@ -86,7 +87,7 @@ pub fn key(
     emoji: &[u32],
     out: &mut [u8],
 ) -> KeyAnswer
-    ensures* { do ⌜ Keying (← (⟦ranges::MAX_PAIRS⟧).entry) text.now (lent starts.now continues.now emoji.now) out.old out.new result ⌝ }
+    ensures { Keying MAX_PAIRS text.now (lent starts.now continues.now emoji.now) out.old out.new result }
 {
     if let Verdict::Refused(bad) = lexer::token_verdict(text, starts, continues, emoji) {
         return KeyAnswer::Refused(bad);

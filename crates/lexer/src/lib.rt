@@ -10,6 +10,7 @@ ghost use Rattle.lexer.specs.Ready.{Lined, Ready};
 ghost use Rattle.lexer.specs.Answers.{token_verdict, one_token, token_numbers};
 
 use cursor::{Cursor, Kinded, Step};
+use ranges::MAX_PAIRS;
 use refusal::{Bad, Numbers, Verdict};
 use token::{Token, TokenKind};
 
@@ -177,7 +178,7 @@ pub fn token_numbers(answer: OneToken) -> Numbers
 
 // What the one-token call checks of a text and three lists: 1, 3, 2.
 pub fn token_verdict(text: &[u8], starts: &[u32], continues: &[u32], emoji: &[u32]) -> Verdict
-    ensures* { do ⌜ result ≡ token_verdict (← (⟦ranges::MAX_PAIRS⟧).entry) text.now (lent starts.now continues.now emoji.now) ⌝ }
+    ensures { result ≡ token_verdict MAX_PAIRS text.now (lent starts.now continues.now emoji.now) }
 {
     let long = text::check_length(text);
     let first = ranges::check_list(0, starts);
@@ -197,7 +198,7 @@ pub fn advance_token(
     at: usize,
     on: bool,
 ) -> OneToken
-    ensures* { do ⌜ result ≡ one_token (← (⟦ranges::MAX_PAIRS⟧).entry) text.now (lent starts.now continues.now emoji.now) at on ⌝ }
+    ensures { result ≡ one_token MAX_PAIRS text.now (lent starts.now continues.now emoji.now) at on }
 {
     match token_verdict(text, starts, continues, emoji) {
         Verdict::Fine => {

@@ -1,4 +1,6 @@
 // How many line feeds a run of bytes has: the count on which the line of a token rests.
+#![tactic(auto)]
+
 ghost use Rattle.std.specs.Prelude.{◌≡◌, ◌≤◌, length};
 ghost use Rattle.line_feeds.specs.Feeds.{feed, line_feeds};
 

@@ -7,6 +7,7 @@ ghost use Rattle.list.specs.Records.{Tokenized, records_of};
 
 use lexer::Scan;
 use plan::ListAnswer;
+use ranges::MAX_PAIRS;
 use token::Token;
 
 // The tokens of n scans past a scan, into the first n records; the others keep their values.
@@ -41,7 +42,7 @@ pub fn tokenize(
     on: bool,
     out: &mut [Token],
 ) -> ListAnswer
-    ensures* { do ⌜ Tokenized (← (⟦ranges::MAX_PAIRS⟧).entry) text.now (lent starts.now continues.now emoji.now) on out.old result out.new ⌝ }
+    ensures { Tokenized MAX_PAIRS text.now (lent starts.now continues.now emoji.now) on out.old result out.new }
 {
     let p = plan::plan_list(text, starts, continues, emoji, on, out.len());
     fill(text, starts, continues, emoji, p.first, out, p.n);
@@ -74,7 +75,7 @@ pub fn tokenize_64(
     on: bool,
     blank: Token,
 ) -> Records
-    ensures* { do ⌜ result ≡ records_of (← (⟦ranges::MAX_PAIRS⟧).entry) text.now (lent starts.now continues.now emoji.now) on blank ⌝ }
+    ensures { result ≡ records_of MAX_PAIRS text.now (lent starts.now continues.now emoji.now) on blank }
 {
     let mut tokens = [blank; 64];
     let answer = tokenize(text, starts, continues, emoji, on, &mut tokens);

@@ -10,7 +10,7 @@ ghost use Rattle.lists_in.specs.Fills.{FillRoom, Filled};
 ghost use Rattle.lists_in.specs.Answers.{roomed_for, judged_of, read_numbers, Reading};
 
 use lists_file::{Entry, First, Line, Version};
-use ranges::Flaw;
+use ranges::{Flaw, MAX_PAIRS};
 use refusal::{Bad, Numbers, Verdict};
 
 // What is loaded: the version, and how many numbers each run now holds.
@@ -243,7 +243,7 @@ fn survey_file(file: &[u8]) -> Survey
 
 // Refusal 3 for a list: the count first, then the pairs.
 fn verdict_of(which: usize, t: Tally) -> Verdict
-    ensures* { do ⌜ result ≡ verdict_of (← (⟦ranges::MAX_PAIRS⟧).entry) which t ⌝ }
+    ensures { result ≡ verdict_of MAX_PAIRS which t }
 {
     if ranges::MAX_PAIRS < t.numbers / 2 {
         return Verdict::Refused(Bad::List(which, ranges::MAX_PAIRS));
@@ -286,7 +286,7 @@ fn roomed_for(version: Version, numbers: Counts, rooms: Counts) -> ReadAnswer
 
 // What is said of a file whose lines are good: 3, then 7, else that it is loaded.
 fn judged(found: Found, rooms: Counts) -> ReadAnswer
-    ensures* { do ⌜ result ≡ judged_of (← (⟦ranges::MAX_PAIRS⟧).entry) found rooms ⌝ }
+    ensures { result ≡ judged_of MAX_PAIRS found rooms }
 {
     let tallies = found.tallies;
     let starts = tallies.starts;
@@ -339,7 +339,7 @@ pub fn read_lists(
     continues: &mut [u32],
     emoji: &mut [u32],
 ) -> ReadAnswer
-    ensures* { do ⌜ Reading (← (⟦ranges::MAX_PAIRS⟧).entry) file.now starts.old continues.old emoji.old starts.new continues.new emoji.new result ⌝ }
+    ensures { Reading MAX_PAIRS file.now starts.old continues.old emoji.old starts.new continues.new emoji.new result }
 {
     let found = match survey_file(file) {
         Survey::Good(found) => found,

@@ -10,6 +10,7 @@ ghost use Rattle.lists_out.specs.Parts.{record_bytes, first_bytes, file_bytes, S
 ghost use Rattle.lists_out.specs.Answers.{write_numbers, Writing};
 
 use lists_file::Version;
+use ranges::MAX_PAIRS;
 use refusal::{Bad, Numbers, Verdict};
 
 // What the writer says: done, with the file's bytes; fewer bytes than the file has (7), with the bytes that it has; or a list that breaks a rule (3).
@@ -173,7 +174,7 @@ pub fn write_lists(
     emoji: &[u32],
     out: &mut [u8],
 ) -> WriteAnswer
-    ensures* { do ⌜ Writing (← (⟦ranges::MAX_PAIRS⟧).entry) version (lent starts.now continues.now emoji.now) out.old out.new result ⌝ }
+    ensures { Writing MAX_PAIRS version (lent starts.now continues.now emoji.now) out.old out.new result }
 {
     let start = ranges::check_list(0, starts);
     let goes_on = ranges::check_list(1, continues);

@@ -7,6 +7,7 @@ ghost use Rattle.plan.specs.Answers.{list_numbers};
 ghost use Rattle.plan.specs.Plans.{planned_of, plan_of};
 
 use lexer::Scan;
+use ranges::MAX_PAIRS;
 use refusal::{Bad, Numbers, Verdict};
 
 // What the list call says: done, with the number of tokens; fewer slots than tokens (5), with the number of tokens; or a refusal (1, 3, 2).
@@ -78,7 +79,7 @@ pub fn plan_list(
     on: bool,
     slots: usize,
 ) -> Plan
-    ensures* { do ⌜ result ≡ plan_of (← (⟦ranges::MAX_PAIRS⟧).entry) text.now (lent starts.now continues.now emoji.now) on slots ⌝ }
+    ensures { result ≡ plan_of MAX_PAIRS text.now (lent starts.now continues.now emoji.now) on slots }
 {
     match lexer::token_verdict(text, starts, continues, emoji) {
         Verdict::Fine => {

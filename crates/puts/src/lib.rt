@@ -1,4 +1,6 @@
 // Bytes put into a lent buffer at a place: they stand there, and the rest is as it was. What is handed back is the place past them.
+#![tactic(auto)]
+
 ghost use Rattle.std.specs.Prelude.{◌+◌, ◌≤◌, [], ◌∷◌, length};
 ghost use Rattle.puts.specs.Put.{Put};
 

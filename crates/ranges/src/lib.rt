@@ -1,5 +1,7 @@
 // The lent lists of code points (document 01, "What the build takes and what it leaves"): pairs of low and high code point.
 // A list is handed in as numbers, low and high in turn. `check_list` says whether it obeys the rules; the search asks for a list that does.
+#![tactic(auto)]
+
 ghost use Rattle.std.specs.Prelude.{◌≡◌};
 ghost use Rattle.ranges.specs.Rules.{good_pair, flaw_from, flaw, list_verdict, Good};
 ghost use Rattle.ranges.specs.Search.{in_pairs};

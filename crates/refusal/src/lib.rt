@@ -1,6 +1,8 @@
 // The refusals that calls share (document 01, "When the build says no"): 1, 3 and 2, as one value that is handed on whole.
 // A call with refusals of its own has an answer enum that holds `Bad` beside its own cases, and a definition that gives
 // the numbers of each case, made from `bad_numbers`.
+#![tactic(auto)]
+
 ghost use Rattle.std.specs.Prelude.{◌≡◌};
 ghost use Rattle.refusal.specs.Order.{in_order, lists_in_order};
 ghost use Rattle.refusal.specs.Numbers.{numbers, cause_number, bad_numbers, verdict_numbers};

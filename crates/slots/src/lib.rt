@@ -8,6 +8,7 @@ ghost use Rattle.slots.specs.Fills.{TokenFits, Filling, FilledSlots};
 ghost use Rattle.slots.specs.Answers.{Slotted};
 
 use plan::ListAnswer;
+use ranges::MAX_PAIRS;
 use token::Token;
 
 // A slot for a token: so many numbers.
@@ -69,7 +70,7 @@ pub fn tokens(
     on: bool,
     slots: &mut [u32],
 ) -> ListAnswer
-    ensures* { do ⌜ Slotted (← (⟦ranges::MAX_PAIRS⟧).entry) text.now (lent starts.now continues.now emoji.now) on slots.old slots.new result ⌝ }
+    ensures { Slotted MAX_PAIRS text.now (lent starts.now continues.now emoji.now) on slots.old slots.new result }
 {
     let plan = plan::plan_list(text, starts, continues, emoji, on, slots.len() / WIDTH);
     let answer = plan.answer;

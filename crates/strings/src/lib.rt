@@ -16,6 +16,7 @@ ghost use Rattle.strings.specs.RawChecks.{is_prefix, raw_answer, error_numbers, 
 ghost use Rattle.strings.specs.Guards.{guarded_at, guarded_answer, is_found, guarded_numbers};
 
 use cursor::{Cursor, Ended, Step};
+use ranges::MAX_PAIRS;
 use refusal::{Bad, Numbers, Verdict};
 use token::{Guarded, GuardedStr, Offset, RawStr, RawStrError};
 
@@ -276,7 +277,7 @@ pub fn guarded_double_quoted_string(
     continues: &[u32],
     at: usize,
 ) -> GuardedAnswer
-    ensures* { do ⌜ result ≡ guarded_answer (← (⟦ranges::MAX_PAIRS⟧).entry) text.now starts.now continues.now at ⌝ }
+    ensures { result ≡ guarded_answer MAX_PAIRS text.now starts.now continues.now at }
 {
     match classes::ident_verdict(text, starts, continues) {
         Verdict::Fine => {

@@ -1,4 +1,6 @@
 // UTF-8 by RFC 3629: the character at a position of any bytes, and the verdict on a whole text.
+#![tactic(auto)]
+
 ghost use Rattle.std.specs.Prelude.{◌≡◌, true, ◌+◌, ◌≤◌, ◌<◌, length, drop};
 ghost use Rattle.text.specs.Ascii.{AsciiRun};
 ghost use Rattle.text.specs.Utf8.{value2, value3, value4, two, three, four, lead, decoded};

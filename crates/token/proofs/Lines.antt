@@ -34,8 +34,8 @@ record Past (s : List ℕ) (line : ℕ) (ts : List Token) : Type 0 where
 
 past : {s : List ℕ} {line : ℕ} (us : List Token) {ts : List Token} → Lines s line (us ++ ts) → Past s line ts
 past {line = line} [] l = record { here = line; later = omega arith; lines = l }
-past (u ∷ us) (next e f l) =
-    let p = past us l in
+past {s = s} {line = line} (u ∷ us) (next e f l) =
+    let p = past {line = line + own_feeds s u} us l in
     record { here = p.here; later = omega (arith, p.later); lines = p.lines }
 
 first_of : {s : List ℕ} {line : ℕ} {t : Token} {ts : List Token} → Lines s line (t ∷ ts) → t.line ≡ line

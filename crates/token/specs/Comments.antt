@@ -1,7 +1,7 @@
 -- Comments (000's line_comment and block_comment), after the two characters that open them.
 use Rattle.std.specs.Prelude.{ℕ, List, Bool, not, get_or}
 use Rattle.basics.specs.Choice.{pick, and, or}
-use Rattle.eaters.specs.Eat.{Eater, give, while, ◌>>=◌, ◌>>◌, texted}
+use Rattle.eaters.specs.Eat.{Eater, give, while, ◌>>=◌, texted}
 use Rattle.eaters.specs.Look.{if_eat}
 use Rattle.eaters.specs.Scan.{Turn, go, deeper, shallower, scan}
 use Rattle.token.specs.declared.DocStyle.{DocStyle}

@@ -1,7 +1,7 @@
 -- Identifiers (000's ident_or_unknown_prefix and invalid_ident), after their first character.
 use Rattle.std.specs.Prelude.{ℕ, Bool}
 use Rattle.basics.specs.Choice.{or}
-use Rattle.eaters.specs.Eat.{Eater, give, while, ◌>>=◌, ◌>>◌}
+use Rattle.eaters.specs.Eat.{Eater, give, while, ◌>>◌}
 use Rattle.eaters.specs.Look.{if_at}
 use Rattle.token.specs.declared.TokenKind.{TokenKind}
 use Rattle.token.specs.declared.TokenKind.TheVariants.{Ident, InvalidIdent, UnknownPrefix}

@@ -1,4 +1,5 @@
 // The types of 000, by value. What 000 writes as an `Option` is a case of its own here. The rules of tokens stand in specs/.
+#![tactic(auto)]
 
 // 000's `Option<DocStyle>`: `Plain` is not a doc comment.
 #[derive(Drop)]

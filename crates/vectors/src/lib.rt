@@ -3,6 +3,8 @@
 // A file is lent as bytes, and nothing is believed of it: a part that would run past the end is not there. What is promised is what the replay
 // needs: every part lies within the file, and every answer within the buffer. That the numbers are read and put as they have to be is
 // judged by the stored answers themselves.
+#![tactic(auto)]
+
 ghost use Rattle.std.specs.Prelude.{◌+◌, ◌<◌, ◌≤◌, length};
 ghost use Rattle.vectors.specs.Placed.{Placed, VectorPlaced};
 
