@@ -129,7 +129,7 @@ fn plain(
 }
 
 // Past the whitespace after a first character, and the last character of it.
-#[derive(Drop)]
+#[derive(Clone, Copy)]
 struct Blanks {
     next: Cursor,
     last: CodePoint,

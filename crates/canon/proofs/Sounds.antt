@@ -10,7 +10,7 @@ use borrow.Author.Tests.{eqb-true}
 use native.Mathlib.Omega.{arith}
 use Rattle.basics.specs.Choice.{pick, and, or}
 use Rattle.basics.specs.Tests.{is_in}
-use Rattle.eaters.specs.Eat.{Got, Eater, give, eat, eat_any, take_while, while, ◌>>=◌, ◌>>◌, Read, texted, choose}
+use Rattle.eaters.specs.Eat.{Got, Eater, give, eat, eat_any, take_while, while, ◌>>=◌, Read, texted, choose}
 use Rattle.eaters.specs.Look.{if_at, if_two, if_eat}
 use Rattle.eaters.proofs.Fits.{Fits, fits_any, fits_while, fits_bind, fits_choose, fits_if_at_one, fits_if_two}
 use Rattle.token.specs.Names.{'newline'}

@@ -44,7 +44,9 @@ said_placed z (t ∷ ts) p r =
     ap (take (length (encode u))) (drop-append_seam p (encode u ++ (encode (texts ts) ++ r))) ∙ take-append_seam (encode u) (encode (texts ts) ++ r) in
     let there : said_of (p ++ (encode u ++ (encode (texts ts) ++ r))) (placed z (length p + length (encode u)) ts) ≡ coded ts =
     rw (k, m) (said_placed z ts (p ++ encode u) r) in
-    rw (j, n, here, there)
+    let cut : said_of (p ++ (encode (u ++ texts ts) ++ r)) (placed z (length p + length (encode u)) ts) ≡ coded ts =
+    ap (λ (l : List ℕ). said_of (p ++ l) (placed z (length p + length (encode u)) ts)) j ∙ there in
+    rw (j, n, here) (ap (λ (l : List Said). record { kind = t.kind; bytes = encode u } ∷ l) cut)
 
 -- THE RECORDS OF A TEXT say what its tokens say, encoded: also where the text is ill-formed after them
 pub said_records : (L : Lists) (on : Bool) (s : List ℕ) → said_of s (records L on s) ≡ coded (tokens L on (chars s))

@@ -18,7 +18,7 @@ use refusal::{Bad, Numbers, Verdict};
 use text::{CodePoint, Decoded};
 
 // A class call's answer: yes or no, or a refusal.
-#[derive(Drop)]
+#[derive(Clone, Copy)]
 pub enum Answer {
     Is(bool),
     Refused(Bad),

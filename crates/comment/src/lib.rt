@@ -1,4 +1,6 @@
 // Whitespace and comments, each proved equal to its rule in the book. Names are 000's.
+#![tactic(auto)]
+
 ghost use Rattle.std.specs.Prelude.{◌≡◌};
 ghost use Rattle.classes.specs.Whitespace.{is_whitespace};
 ghost use Rattle.eaters.specs.Eat.{while};

@@ -11,7 +11,6 @@ use Rattle.text.specs.Chars.{size}
 use Rattle.eaters.specs.Eat.{Got, Eater, give, eat, ◌>>=◌, ◌>>◌, texted, choose}
 use Rattle.eaters.specs.Look.{if_at, if_two, if_eat}
 use Rattle.cursor.specs.declared.Cursor.{Cursor}
-use Rattle.cursor.specs.declared.Step.TheVariants as step
 use Rattle.cursor.specs.Cursors.{rest}
 use Rattle.cursor.specs.Moved.{Moved, start, left_of, then, one_cursor, passed}
 use Rattle.cursor.specs.Ran.{left, Ran}

@@ -1,6 +1,8 @@
 // The cursor: a place in a text, as a value that each move hands back. Its place is shut in this crate: a scan holds no width and no sum.
 //
 // Nothing is asked of the text or of the place: where no character can be read, there is the end.
+#![tactic(auto)]
+
 ghost use Rattle.std.specs.Prelude.{◌≤◌, ◌≡◌, get_or, drop};
 ghost use Rattle.cursor.specs.Cursors.{rest, Seen};
 ghost use Rattle.cursor.specs.Moved.{Moved};
@@ -9,48 +11,48 @@ ghost use Rattle.cursor.specs.Counted.{Counted};
 use text::{CodePoint, Decoded};
 use token::{LiteralKind, TokenKind};
 
-#[derive(Drop)]
+#[derive(Clone, Copy)]
 pub struct Cursor {
     at: usize,
 }
 
 // What a peek gives: a character and the cursor past it, or the end. So a NUL is not the end.
-#[derive(Drop)]
+#[derive(Clone, Copy)]
 pub enum Step {
     Got(CodePoint, Cursor),
     Over,
 }
 
 // What a rule of the book gives: the kind of the token, and the cursor past it.
-#[derive(Drop)]
+#[derive(Clone, Copy)]
 pub struct Lexed {
     pub kind: TokenKind,
     pub next: Cursor,
 }
 
 // The kind of a token whose place is not known yet: a literal's has the cursor at which its suffix starts.
-#[derive(Drop)]
+#[derive(Clone, Copy)]
 pub enum Kinded {
     Plain(TokenKind),
     Literal(LiteralKind, Cursor),
 }
 
 // What a rule of the book gives that may be a literal: the kind, and the cursor past the token.
-#[derive(Drop)]
+#[derive(Clone, Copy)]
 pub struct Scanned {
     pub kind: Kinded,
     pub next: Cursor,
 }
 
 // What a search for an end gives: the cursor past it, and whether it was found.
-#[derive(Drop)]
+#[derive(Clone, Copy)]
 pub struct Ended {
     pub next: Cursor,
     pub terminated: bool,
 }
 
 // What a character that is repeated gives: the cursor past it, and how many times it stands there.
-#[derive(Drop)]
+#[derive(Clone, Copy)]
 pub struct Repeated {
     pub next: Cursor,
     pub count: usize,

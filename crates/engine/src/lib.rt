@@ -76,7 +76,7 @@ fn begun(begins: bool, here: usize, before: usize) -> usize
 }
 
 // The mode after a character, the place of the token begun, and the place past what was laid.
-#[derive(Drop)]
+#[derive(Clone, Copy)]
 pub struct Kept {
     pub mode: Mode,
     pub from: usize,
@@ -116,7 +116,7 @@ fn feed_char(
 }
 
 // What a run leaves: the machine's state (its mode, the place of the token begun, the place reached), and the place past what was laid.
-#[derive(Drop)]
+#[derive(Clone, Copy)]
 pub struct Ran {
     pub mode: Mode,
     pub from: usize,
@@ -170,7 +170,7 @@ pub fn run(
 }
 
 // What the end of a text does: what was held back is still to be written, or the token begun is broken.
-#[derive(Drop)]
+#[derive(Clone, Copy)]
 pub enum End {
     Rest(Before),
     Broken,
@@ -211,7 +211,7 @@ pub fn end_of(mode: Mode) -> End
 }
 
 // What a key needs: so many bytes, or that its first broken token is mended.
-#[derive(Drop)]
+#[derive(Clone, Copy)]
 pub enum Need {
     Bytes(usize),
     Mending(usize),

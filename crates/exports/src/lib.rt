@@ -32,7 +32,7 @@ use token::{Guarded, Offset, RawStr, RawStrError};
 
 // An answer by number.
 #[repr(C)]
-#[derive(Drop)]
+#[derive(Clone, Copy)]
 pub struct Answer {
     pub number: u32,
     pub beside: usize,
@@ -42,7 +42,7 @@ pub struct Answer {
 // The one-token call's answer. Done: the position past the token and 1 where frontmatter is on there are beside the 0, and stand in `next` and `on`
 // too. Refused: every number past the third is 0.
 #[repr(C)]
-#[derive(Drop)]
+#[derive(Clone, Copy)]
 pub struct TokenAnswer {
     pub number: u32,
     pub beside: usize,
@@ -59,7 +59,7 @@ pub struct TokenAnswer {
 // The answer of the call that goes on from a position. Done: the number of tokens and the position past the last of them are beside the 0, and stand in
 // `tokens` and `next` too; `on` says whether frontmatter is on there. Refused: every number past the third is 0.
 #[repr(C)]
-#[derive(Drop)]
+#[derive(Clone, Copy)]
 pub struct RunAnswer {
     pub number: u32,
     pub beside: usize,
@@ -72,7 +72,7 @@ pub struct RunAnswer {
 // The raw check's answer. Done: the case is beside the 0, and stands in `check` too: 0 good, 1 no quote, 2 no end, 3 too many hashes; `second` has the
 // case's first number. A number that the case has not is 0, and so is every number past the third where the call is refused.
 #[repr(C)]
-#[derive(Drop)]
+#[derive(Clone, Copy)]
 pub struct RawStrAnswer {
     pub number: u32,
     pub beside: usize,
@@ -88,7 +88,7 @@ pub struct RawStrAnswer {
 // The guarded string's answer. Done: the position where the cursor then stands and 1 where a string is found are beside the 0, and stand in `next` and
 // `found` too. Where none is found its numbers are 0. Refused: every number past the third is 0.
 #[repr(C)]
-#[derive(Drop)]
+#[derive(Clone, Copy)]
 pub struct GuardedStrAnswer {
     pub number: u32,
     pub beside: usize,
@@ -102,7 +102,7 @@ pub struct GuardedStrAnswer {
 
 // The answer of the reader of a file of lists. Done: 0, 0, 0, the version, and how many numbers each run now holds. Refused: every number past the third is 0.
 #[repr(C)]
-#[derive(Drop)]
+#[derive(Clone, Copy)]
 pub struct ListsAnswer {
     pub number: u32,
     pub beside: usize,

@@ -1,6 +1,8 @@
 // Frontmatter, in linear time, proved equal to its rule in the book. Names are 000's.
 //
 // A function that uses a lent list asks for one that was checked. Every search goes over the text once.
+#![tactic(auto)]
+
 ghost use Rattle.std.specs.Prelude.{◌≡◌, [], ◌∷◌, true, drop};
 ghost use Rattle.ranges.specs.Rules.{Good};
 ghost use Rattle.classes.specs.Whitespace.{is_horizontal_whitespace};
@@ -41,7 +43,7 @@ fn starts_with(text: &[u8], from: Cursor, pattern: &[u8]) -> bool
 }
 
 // What a search gives: the cursor at the place that was sought, if there is one.
-#[derive(Drop)]
+#[derive(Clone, Copy)]
 enum Sought {
     At(Cursor),
     Nowhere,

@@ -7,7 +7,7 @@ use machine::Mode;
 use text::CodePoint;
 
 // What a character does to the token before it: it belongs to it and is written; it belongs to it, and nothing is written; or the token ended before it, and whether that was trivia.
-#[derive(Drop)]
+#[derive(Clone, Copy)]
 pub enum Goes {
     Takes(Mode),
     Drops(Mode),

@@ -12,7 +12,7 @@ use refusal::{Bad, Numbers, Verdict};
 
 // What the key call says: done, with the key's bytes; CR CR LF (10), with the place of the first in the text; a hidden direction mark (11), likewise; a
 // broken token (6), with the start of the first in the replaced text; fewer bytes than the key has (7), with the bytes that it has; or a refusal (1, 3, 2).
-#[derive(Drop)]
+#[derive(Clone, Copy)]
 pub enum KeyAnswer {
     Keyed(usize),
     DoubleReturn(usize),

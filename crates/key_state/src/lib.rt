@@ -5,7 +5,7 @@ use places::Found;
 use waits::Ill;
 
 // The bytes that wait: CR, CR CR, or the first bytes of a character.
-#[derive(Drop)]
+#[derive(Clone, Copy)]
 pub enum Kept {
     Nothing,
     One(u8),
@@ -15,7 +15,7 @@ pub enum Kept {
 
 // THE STATE. `count` is the number of bytes handed in, 4,294,967,296 where they are more than the limit; `ill`, `double` and `mark` are the first ill-formed
 // sequence, the first CR CR LF and the first hidden direction mark among the bytes that were read, as places of the whole text.
-#[derive(Drop)]
+#[derive(Clone, Copy)]
 pub struct KeyState {
     pub machine: State,
     pub kept: Kept,

@@ -1,5 +1,7 @@
 // What a kind of token is: trivia or broken (document 01, "The key"); and the kind as one number, for records of numbers: the number and the start
 // of the suffix give the kind back, and nothing is lost (proofs/Decode.antt).
+#![tactic(auto)]
+
 ghost use Rattle.std.specs.Prelude.{◌≡◌};
 ghost use Rattle.token.specs.Kinds.{kind_number};
 ghost use Rattle.token.specs.Trivia.{is_plain, is_trivia};

@@ -15,7 +15,7 @@ use refusal::{Bad, Numbers, Verdict};
 use token::{Token, TokenKind};
 
 // A token, the position past it, and whether frontmatter is on there: the whole state of a loop over a text.
-#[derive(Drop)]
+#[derive(Clone, Copy)]
 pub struct Scan {
     pub token: Token,
     pub next: usize,
@@ -23,7 +23,7 @@ pub struct Scan {
 }
 
 // A token without its place, the position past it, and whether frontmatter is on there.
-#[derive(Drop)]
+#[derive(Clone, Copy)]
 pub struct Bare {
     pub kind: TokenKind,
     pub len: u32,
@@ -149,7 +149,7 @@ pub fn step(text: &[u8], starts: &[u32], continues: &[u32], emoji: &[u32], c: Sc
 }
 
 // What the one-token call says: a token, or that the position is past the end or inside a character (4), or a refusal (1, 3, 2).
-#[derive(Drop)]
+#[derive(Clone, Copy)]
 pub enum OneToken {
     Given(Scan),
     Position(usize),

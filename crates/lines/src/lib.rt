@@ -5,7 +5,7 @@ ghost use Rattle.lexer.specs.Checked.{Checked};
 ghost use Rattle.lines.specs.Filled.{Filled};
 
 // The position past the last token whose line was put, and the bytes that were put.
-#[derive(Drop)]
+#[derive(Clone, Copy)]
 pub struct Chunk {
     pub next: usize,
     pub used: usize,

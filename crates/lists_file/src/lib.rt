@@ -8,7 +8,7 @@ ghost use Rattle.lists_file.specs.Lines.{which_of, entry_of, pair_of, record_of,
 use fields::Numeral;
 
 // A Unicode version, as 15.0.0.
-#[derive(Drop)]
+#[derive(Clone, Copy)]
 pub struct Version {
     pub major: u16,
     pub minor: u16,
@@ -16,7 +16,7 @@ pub struct Version {
 }
 
 // A record: its list, numbered as beside refusal 3 (0 id start, 1 id continue, 2 emoji), and a pair.
-#[derive(Drop)]
+#[derive(Clone, Copy)]
 pub struct Entry {
     pub which: usize,
     pub low: u32,
@@ -24,14 +24,14 @@ pub struct Entry {
 }
 
 // What the first line says.
-#[derive(Drop)]
+#[derive(Clone, Copy)]
 pub enum First {
     Version(Version),
     Bad,
 }
 
 // What another line says.
-#[derive(Drop)]
+#[derive(Clone, Copy)]
 pub enum Line {
     Record(Entry),
     Bad,

@@ -14,7 +14,7 @@ use ranges::{Flaw, MAX_PAIRS};
 use refusal::{Bad, Numbers, Verdict};
 
 // What is loaded: the version, and how many numbers each run now holds.
-#[derive(Drop)]
+#[derive(Clone, Copy)]
 pub struct Held {
     pub version: Version,
     pub starts: usize,
@@ -24,7 +24,7 @@ pub struct Held {
 
 // What the reader says: done; a bad line (9), with the number of the first, from 0; a list for which the run has too little room (7), and the numbers it
 // needs; or a list that breaks a rule (3).
-#[derive(Drop)]
+#[derive(Clone, Copy)]
 pub enum ReadAnswer {
     Loaded(Held),
     Line(usize),
@@ -57,14 +57,14 @@ pub fn read_numbers(answer: ReadAnswer) -> Numbers
 }
 
 // What is known of a list so far: how many numbers it has, where its last pair ends (0 where it has none), and where it breaks a rule first.
-#[derive(Drop)]
+#[derive(Clone, Copy)]
 struct Tally {
     numbers: usize,
     previous: u32,
     flaw: Flaw,
 }
 
-#[derive(Drop)]
+#[derive(Clone, Copy)]
 struct Tallies {
     starts: Tally,
     continues: Tally,
@@ -138,7 +138,7 @@ fn tallies_on(t: Tallies, entry: Entry) -> Tallies
 }
 
 // The record in the line at a place, and the place past its LF; or the line is bad.
-#[derive(Drop)]
+#[derive(Clone, Copy)]
 enum Step {
     Record(Entry, usize),
     Bad,
@@ -159,14 +159,14 @@ fn line_at(file: &[u8], at: usize) -> Step
 }
 
 // What a whole file says: its version, where its records begin, and what is known of its lists; or the number of its first bad line.
-#[derive(Drop)]
+#[derive(Clone, Copy)]
 struct Found {
     version: Version,
     from: usize,
     tallies: Tallies,
 }
 
-#[derive(Drop)]
+#[derive(Clone, Copy)]
 enum Survey {
     Good(Found),
     Line(usize),
@@ -256,7 +256,7 @@ fn verdict_of(which: usize, t: Tally) -> Verdict
 }
 
 // Three counts, of the three lists.
-#[derive(Drop)]
+#[derive(Clone, Copy)]
 struct Counts {
     starts: usize,
     continues: usize,

@@ -14,7 +14,7 @@ use ranges::MAX_PAIRS;
 use refusal::{Bad, Numbers, Verdict};
 
 // What the writer says: done, with the file's bytes; fewer bytes than the file has (7), with the bytes that it has; or a list that breaks a rule (3).
-#[derive(Drop)]
+#[derive(Clone, Copy)]
 pub enum WriteAnswer {
     Written(usize),
     Room(usize),

@@ -1,4 +1,6 @@
 // Literals with their suffixes: bytes and C strings are forms of the same scans, by a small choice. Each function is proved equal to its rule in the book.
+#![tactic(auto)]
+
 ghost use Rattle.std.specs.Prelude.{◌≡◌, []};
 ghost use Rattle.ranges.specs.Rules.{Good};
 ghost use Rattle.token.specs.Lists.{lent};
@@ -12,7 +14,7 @@ use text::CodePoint;
 use token::{HashCount, LiteralKind};
 
 // The form of a string: plain, of bytes, of C.
-#[derive(Drop)]
+#[derive(Clone, Copy)]
 pub enum Form {
     Plain,
     Byte,

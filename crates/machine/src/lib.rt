@@ -1,7 +1,7 @@
 // The key of a text, character by character: the states of a machine that reads each character once and looks at none ahead. Definitions in specs/, laws in proofs/.
 
 // what the last character of a block comment was; a character that ended a pair (/* or */) counts as plain
-#[derive(Drop)]
+#[derive(Clone, Copy)]
 pub enum Last {
     PlainChar,
     ASlash,
@@ -9,7 +9,7 @@ pub enum Last {
 }
 
 // What was read of the token that is begun, as far as it counts. `gap`: trivia stands right before this token, so that more of it writes nothing.
-#[derive(Drop)]
+#[derive(Clone, Copy)]
 pub enum Mode {
     // between two tokens; gap: the last one was trivia
     Start { gap: bool },
@@ -76,7 +76,7 @@ pub enum Mode {
 }
 
 // The machine between two characters: its mode, the place of the token that is begun, and the place reached, both in bytes of the replaced text.
-#[derive(Drop)]
+#[derive(Clone, Copy)]
 pub struct State {
     pub mode: Mode,
     pub from: usize,

@@ -1,5 +1,7 @@
 // Numbers, after their first digit, each function proved equal to its rule in the book. Names are 000's where it has the function.
 // A function that uses a lent list asks for one that was checked.
+#![tactic(auto)]
+
 ghost use Rattle.std.specs.Prelude.{◌≡◌, true, []};
 ghost use Rattle.basics.specs.Tests.{within};
 ghost use Rattle.ranges.specs.Rules.{Good};
@@ -14,14 +16,14 @@ use text::CodePoint;
 use token::{Base, LiteralKind};
 
 // What a scan of digits gives: the cursor past them and the underscores among them, and whether there is a digit.
-#[derive(Drop)]
+#[derive(Clone, Copy)]
 struct Digits {
     pub next: Cursor,
     pub some: bool,
 }
 
 // What a rule of numbers gives: the kind, and the cursor past the number. A suffix may follow every number.
-#[derive(Drop)]
+#[derive(Clone, Copy)]
 pub struct Numeral {
     pub kind: LiteralKind,
     pub next: Cursor,

@@ -15,7 +15,7 @@ pub const SPARE: usize = 16;
 
 // What the call for a piece says: done, with the bytes written; the piece is over the limit (25), with the limit; too little room (7), with the room that it
 // needs; the state is none that a call gave (26); or a list is bad (3).
-#[derive(Drop)]
+#[derive(Clone, Copy)]
 pub enum PieceAnswer {
     Written(usize),
     Over(usize),
@@ -25,21 +25,21 @@ pub enum PieceAnswer {
 }
 
 // The state after a piece, and the answer.
-#[derive(Drop)]
+#[derive(Clone, Copy)]
 pub struct Went {
     pub state: KeyState,
     pub answer: PieceAnswer,
 }
 
 // What the end call says: the state is none that a call gave (26), or what the one-shot call says.
-#[derive(Drop)]
+#[derive(Clone, Copy)]
 pub enum EndAnswer {
     Ended(KeyAnswer),
     NoState,
 }
 
 // The state after some bytes, and how many were written of the key.
-#[derive(Drop)]
+#[derive(Clone, Copy)]
 struct Read {
     state: KeyState,
     n: usize,

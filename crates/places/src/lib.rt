@@ -2,7 +2,7 @@
 #![tactic(auto)]
 
 // Where something stands, if it does.
-#[derive(Drop)]
+#[derive(Clone, Copy)]
 pub enum Found {
     At(usize),
     Nowhere,

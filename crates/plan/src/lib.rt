@@ -11,7 +11,7 @@ use ranges::MAX_PAIRS;
 use refusal::{Bad, Numbers, Verdict};
 
 // What the list call says: done, with the number of tokens; fewer slots than tokens (5), with the number of tokens; or a refusal (1, 3, 2).
-#[derive(Drop)]
+#[derive(Clone, Copy)]
 pub enum ListAnswer {
     Listed(usize),
     Slots(usize),
@@ -38,7 +38,7 @@ pub fn list_numbers(answer: ListAnswer) -> Numbers
 }
 
 // What is answered, how many records are written, and the scan before the first of them.
-#[derive(Drop)]
+#[derive(Clone, Copy)]
 pub struct Plan {
     pub answer: ListAnswer,
     pub n: usize,

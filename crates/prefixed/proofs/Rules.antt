@@ -23,7 +23,7 @@ use Rattle.token.specs.Quotes.{double_quoted, single_quoted}
 use Rattle.token.specs.RawStrings.{raw_string}
 use Rattle.token.specs.Lifetimes.{character, lifetime_or_char}
 use Rattle.token.specs.Punctuation.{hash_or_quote}
-use Rattle.token.specs.Prefixed.{hashed, after_r, after_k, after_c, after_b}
+use Rattle.token.specs.Prefixed.{after_r, after_k, after_c, after_b}
 use Rattle.cursor.specs.declared.Cursor.{Cursor}
 use Rattle.cursor.specs.declared.Kinded.TheVariants as kinded
 use Rattle.cursor.specs.declared.Scanned.{Scanned}

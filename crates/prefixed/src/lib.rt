@@ -1,4 +1,6 @@
 // What a quote and the letters r, k, b and c begin, after them, each proved equal to its rule in the book.
+#![tactic(auto)]
+
 ghost use Rattle.std.specs.Prelude.{◌≡◌, []};
 ghost use Rattle.basics.specs.Choice.{and};
 ghost use Rattle.ranges.specs.Rules.{Good};

@@ -1,4 +1,6 @@
 // Quoted literals, each proved equal to its rule in the book. Names are 000's.
+#![tactic(auto)]
+
 ghost use Rattle.eaters.specs.Scan.{scan};
 ghost use Rattle.token.specs.Quotes.{double_turn, single_turn, single};
 ghost use Rattle.eaters.specs.Scan.{first_with};
@@ -143,7 +145,7 @@ pub fn raw_rest(text: &[u8], from: Cursor, count: usize) -> Ended
 }
 
 // The cursor past a raw string without its suffix, and its count of hashes.
-#[derive(Drop)]
+#[derive(Clone, Copy)]
 pub struct RawQuoted {
     pub next: Cursor,
     pub count: HashCount,

@@ -12,7 +12,7 @@ use refusal::{Bad, Verdict};
 pub const MAX_PAIRS: usize = 8192;
 
 // Where a list breaks a rule: nowhere, or at the pair of this index.
-#[derive(Drop)]
+#[derive(Clone, Copy)]
 pub enum Flaw {
     Nowhere,
     Pair(usize),

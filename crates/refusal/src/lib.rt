@@ -9,7 +9,7 @@ ghost use Rattle.refusal.specs.Numbers.{numbers, cause_number, bad_numbers, verd
 
 // Why a sequence of bytes is no character (document 02, W2). Its bytes are judged from the left, and the first that cannot stand where it stands,
 // or the end of the text if that comes first, is the cause.
-#[derive(Drop)]
+#[derive(Clone, Copy)]
 pub enum Cause {
     // its first byte cannot start a sequence
     Start,
@@ -19,7 +19,7 @@ pub enum Cause {
     Follow,
 }
 
-#[derive(Drop)]
+#[derive(Clone, Copy)]
 pub enum Bad {
     // the text has more than 4,294,967,295 bytes
     TooLong,
@@ -30,14 +30,14 @@ pub enum Bad {
 }
 
 // What a check says.
-#[derive(Drop)]
+#[derive(Clone, Copy)]
 pub enum Verdict {
     Fine,
     Refused(Bad),
 }
 
 // A refusal by number: its number in document 01's table (0: done), and the numbers beside it, 0 where there is none.
-#[derive(Drop)]
+#[derive(Clone, Copy)]
 pub struct Numbers {
     pub number: u32,
     pub beside: usize,

@@ -15,7 +15,7 @@ use text::CodePoint;
 use token::TokenKind;
 
 // What `strip_shebang` says: where the shebang ends, in bytes, that there is none, or a refusal (1, 2).
-#[derive(Drop)]
+#[derive(Clone, Copy)]
 pub enum ShebangAnswer {
     Ends(usize),
     Absent,

@@ -7,7 +7,7 @@ use lib.ListN.{length, get_or, take, drop}
 use native.Mathlib.Omega.{arith}
 use borrow.Author.Tests.{ne_eqb}
 use Rattle.text.specs.Chars.{size, chars}
-use Rattle.eaters.specs.Eat.{Eater, give, nothing, take_while, take_most, while, while_most, ◌>>=◌, ◌>>◌, texted, choose}
+use Rattle.eaters.specs.Eat.{Eater, give, nothing, take_while, take_most, while_most, ◌>>=◌, ◌>>◌, texted, choose}
 use Rattle.eaters.specs.Look.{if_eat}
 use Rattle.eaters.specs.Scan.{scan}
 use Rattle.eaters.proofs.Fits.{Fits, fits_give, fits_while, fits_while_most, fits_bind, fits_then, fits_choose, fits_if_eat, fits_scan}

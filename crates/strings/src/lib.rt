@@ -1,6 +1,8 @@
 // The raw check (000's `validate_raw_str`) and guarded strings (000's `guarded_double_quoted_string`): the scans, each proved equal to its rule
 // in the book, and the public calls. A count becomes one of 000's numbers where it is made: it fits, in a text that is not too long.
 // A function that uses a lent list asks for one that was checked.
+#![tactic(auto)]
+
 ghost use Rattle.std.specs.Prelude.{◌≤◌, ◌≡◌, [], ◌∷◌, length, drop};
 ghost use Rattle.text.specs.Chars.{chars};
 ghost use Rattle.ranges.specs.Rules.{Good};
@@ -21,7 +23,7 @@ use refusal::{Bad, Numbers, Verdict};
 use token::{Guarded, GuardedStr, Offset, RawStr, RawStrError};
 
 // The most hashes that stand after a quote, and the offset past the first quote that has them.
-#[derive(Drop)]
+#[derive(Clone, Copy)]
 struct Guessed {
     most: u32,
     offset: Offset,
@@ -130,7 +132,7 @@ fn is_prefix(text: &[u8], prefix: usize) -> bool
 }
 
 // What `validate_raw_str` says: the check's result, that the prefix is none of a raw string (8), or a refusal (1, 2).
-#[derive(Drop)]
+#[derive(Clone, Copy)]
 pub enum RawAnswer {
     Checked(RawStr),
     Prefix,
@@ -226,7 +228,7 @@ fn guarded_rest(text: &[u8], from: Cursor, count: usize, starts: &[u32], continu
 }
 
 // What is found at a position, and where the cursor then stands: where there is no quote, past the hashes.
-#[derive(Drop)]
+#[derive(Clone, Copy)]
 pub struct GuardedAt {
     pub found: Guarded,
     pub next: usize,
@@ -262,7 +264,7 @@ fn guarded_at(text: &[u8], at: usize, starts: &[u32], continues: &[u32]) -> Guar
 }
 
 // What `guarded_double_quoted_string` says: what is found, that the position is past the end or inside a character (4), or a refusal (1, 3, 2).
-#[derive(Drop)]
+#[derive(Clone, Copy)]
 pub enum GuardedAnswer {
     Given(GuardedAt),
     Position(usize),

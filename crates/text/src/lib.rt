@@ -14,7 +14,7 @@ use refusal::{Bad, Cause, Verdict};
 pub type CodePoint = u32;
 
 // What stands at a position: a character and its bytes, the end of the text, or an ill-formed sequence and why it is one.
-#[derive(Drop)]
+#[derive(Clone, Copy)]
 pub enum Decoded {
     Char(CodePoint, usize),
     End,
@@ -22,7 +22,7 @@ pub enum Decoded {
 }
 
 // A byte that had to lie in a range: it does, or there is none that does, and why.
-#[derive(Drop)]
+#[derive(Clone, Copy)]
 enum Next {
     Byte(u32),
     Other(Cause),

@@ -2,7 +2,7 @@
 #![tactic(auto)]
 
 // 000's `Option<DocStyle>`: `Plain` is not a doc comment.
-#[derive(Drop)]
+#[derive(Clone, Copy)]
 pub enum DocStyle {
     Outer,
     Inner,
@@ -10,13 +10,13 @@ pub enum DocStyle {
 }
 
 // 000's `Option<u8>` of a raw string's hashes: no count for a bad start, for no end, and for more than 255.
-#[derive(Drop)]
+#[derive(Clone, Copy)]
 pub enum HashCount {
     Of(u8),
     NoCount,
 }
 
-#[derive(Drop)]
+#[derive(Clone, Copy)]
 pub enum Base {
     Binary,
     Octal,
@@ -24,7 +24,7 @@ pub enum Base {
     Hexadecimal,
 }
 
-#[derive(Drop)]
+#[derive(Clone, Copy)]
 pub enum LiteralKind {
     Int { base: Base, empty_int: bool },
     Float { base: Base, empty_exponent: bool },
@@ -39,7 +39,7 @@ pub enum LiteralKind {
 }
 
 // In the order of 000. `suffix_start` counts bytes from the token's start; where there is no suffix it is the token's length.
-#[derive(Drop)]
+#[derive(Clone, Copy)]
 pub enum TokenKind {
     LineComment {
         doc_style: DocStyle,
@@ -100,7 +100,7 @@ pub enum TokenKind {
 }
 
 // A token of a text: `len` bytes from byte `start` on, with `line` line feeds before it.
-#[derive(Drop)]
+#[derive(Clone, Copy)]
 pub struct Token {
     pub kind: TokenKind,
     pub len: u32,
@@ -109,7 +109,7 @@ pub struct Token {
 }
 
 // What `guarded_double_quoted_string` finds: the hashes before it, whether it ends, and its bytes.
-#[derive(Drop)]
+#[derive(Clone, Copy)]
 pub struct GuardedStr {
     pub n_hashes: u32,
     pub terminated: bool,
@@ -117,21 +117,21 @@ pub struct GuardedStr {
 }
 
 // 000's `Option<GuardedStr>`.
-#[derive(Drop)]
+#[derive(Clone, Copy)]
 pub enum Guarded {
     Found(GuardedStr),
     NotFound,
 }
 
 // 000's `Option<u32>` of a byte offset at which a raw string may have been meant to end.
-#[derive(Drop)]
+#[derive(Clone, Copy)]
 pub enum Offset {
     At(u32),
     Nowhere,
 }
 
 // What is wrong with a raw string. `bad_char` is 0 where the text ends.
-#[derive(Drop)]
+#[derive(Clone, Copy)]
 pub enum RawStrError {
     InvalidStarter {
         bad_char: u32,
@@ -147,7 +147,7 @@ pub enum RawStrError {
 }
 
 // What the raw check says: 000's `Result<(), RawStrError>`.
-#[derive(Drop)]
+#[derive(Clone, Copy)]
 pub enum RawStr {
     Good,
     Bad(RawStrError),

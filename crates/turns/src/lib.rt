@@ -14,7 +14,7 @@ use machine::{Last, Mode};
 use text::CodePoint;
 
 // What was held back and is written before it.
-#[derive(Drop)]
+#[derive(Clone, Copy)]
 pub enum Before {
     Nothing,
     Newline,
@@ -26,14 +26,14 @@ pub enum Before {
 }
 
 // What a character does to the token before it, after what was held back.
-#[derive(Drop)]
+#[derive(Clone, Copy)]
 pub struct Turn {
     pub before: Before,
     pub goes: Goes,
 }
 
 // What a character does where a token begins: it is written; nothing is; or one newline.
-#[derive(Drop)]
+#[derive(Clone, Copy)]
 pub enum First {
     Writes(Mode),
     Holds(Mode),
@@ -41,7 +41,7 @@ pub enum First {
 }
 
 // What is written for the character itself: it, one newline in place of a run of trivia, or nothing.
-#[derive(Drop)]
+#[derive(Clone, Copy)]
 pub enum Shown {
     Itself,
     Line,
@@ -49,7 +49,7 @@ pub enum Shown {
 }
 
 // What a character does: what is written, the mode after it, and whether a token begins with it.
-#[derive(Drop)]
+#[derive(Clone, Copy)]
 pub struct Stepped {
     pub before: Before,
     pub shown: Shown,

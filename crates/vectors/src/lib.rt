@@ -11,14 +11,14 @@ ghost use Rattle.vectors.specs.Placed.{Placed, VectorPlaced};
 use refusal::Numbers;
 
 // A part of a file, from its first place to the place past it. One that is not there is empty and stands where it was looked for.
-#[derive(Drop)]
+#[derive(Clone, Copy)]
 pub struct Part {
     pub from: usize,
     pub to: usize,
 }
 
 // A vector: the operation, what is handed in and the answer. One that is not there ends where it was looked for.
-#[derive(Drop)]
+#[derive(Clone, Copy)]
 pub struct Vector {
     pub operation: u32,
     pub input: Part,

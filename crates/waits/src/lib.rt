@@ -5,14 +5,14 @@ ghost use Rattle.waits.specs.Waits.{last_returns, stopped_at, up_to, ready_of};
 use refusal::{Bad, Cause, Verdict};
 
 // An ill-formed sequence that no more bytes can mend: where it starts, and its cause.
-#[derive(Drop)]
+#[derive(Clone, Copy)]
 pub enum Ill {
     Nowhere,
     At(usize, Cause),
 }
 
 // How many bytes can be read now, and the ill-formed sequence that stands there, if one does.
-#[derive(Drop)]
+#[derive(Clone, Copy)]
 pub struct Ready {
     pub bytes: usize,
     pub ill: Ill,

@@ -13,7 +13,7 @@ use Rattle.classes.specs.Identifiers.{digit, letter, id_start, id_continue}
 use Rattle.basics.specs.Choice.{and, or}
 use Rattle.basics.proofs.Choices.{yes_or_no}
 use Rattle.eaters.proofs.Fits.{there}
-use Rattle.eaters.specs.Eat.{Eater, Read, give, eat, take_while, while, ◌>>=◌, choose}
+use Rattle.eaters.specs.Eat.{Eater, Read, give, eat, take_while, while, choose}
 use Rattle.eaters.specs.Look.{if_at, if_two, if_eat}
 use Rattle.token.specs.declared.LiteralKind.TheVariants.{Char}
 use Rattle.token.specs.declared.TokenKind.{TokenKind}

@@ -1,6 +1,6 @@
 -- The rules of words, from the runs of their scans, in the facts of the code.
 use Prim.Native.Nat.{ℕ}
-use mathlib.Core.Path.{◌≡◌, refl, sym, ◌∙◌}
+use mathlib.Core.Path.{◌≡◌, sym, ◌∙◌}
 use mathlib.Core.Bool.{Bool, true, false}
 use mathlib.Core.List.{List, []}
 use lib.Dec.{eqb}
@@ -8,7 +8,7 @@ use lib.ListN.{get_or, drop}
 use borrow.Author.Tests.{ne_eqb}
 use Rattle.classes.specs.Identifiers.{id_start, id_continue}
 use Rattle.classes.specs.Emoji.{emoji_char}
-use Rattle.eaters.specs.Eat.{Eater, give, nothing, eat, while, ◌>>=◌, ◌>>◌}
+use Rattle.eaters.specs.Eat.{Eater, give, nothing, while, ◌>>◌}
 use Rattle.eaters.specs.Look.{if_at}
 use Rattle.token.specs.declared.TokenKind.{TokenKind}
 use Rattle.token.specs.declared.TokenKind.TheVariants.{Ident, InvalidIdent, UnknownPrefix}
@@ -19,7 +19,7 @@ use Rattle.cursor.specs.declared.Cursor.{Cursor}
 use Rattle.cursor.specs.Cursors.{rest}
 use Rattle.cursor.specs.Moved.{Moved}
 use Rattle.cursor.specs.Ran.{left, Ran}
-use Rattle.cursor.proofs.Runs.{ran_give, ran_then, ran_eat, ran_yes, ran_no, ran_take, ran_both, ran_not_both}
+use Rattle.cursor.proofs.Runs.{ran_give, ran_then, ran_yes, ran_no, ran_take}
 use Rattle.cursor.proofs.Loops.{ran_while}
 
 -- what goes on in an invalid identifier

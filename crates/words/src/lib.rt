@@ -1,5 +1,7 @@
 // Identifiers, prefixes, invalid identifiers and lifetimes, each proved equal to its rule in the book. Names are 000's.
 // A function that uses a lent list asks for one that was checked.
+#![tactic(auto)]
+
 ghost use Rattle.std.specs.Prelude.{◌≡◌, []};
 ghost use Rattle.ranges.specs.Rules.{Good};
 ghost use Rattle.classes.specs.Identifiers.{id_continue};
@@ -131,7 +133,7 @@ pub fn ident_or_unknown_prefix(text: &[u8], from: Cursor, continues: &[u32], emo
 }
 
 // What stands after a quote: a lifetime, or a name that a quote closes; or neither, and it is a character literal.
-#[derive(Drop)]
+#[derive(Clone, Copy)]
 pub enum Life {
     Found(Scanned),
     Char,

@@ -1,0 +1,24 @@
+use Rattle.frontmatter.proofs.Fences.{fencing, fencing_over, fencing_other, fencing_found, fencing_few, fencing_less}
+use Rattle.cursor.proofs.Moves.{fewer_1}
+use Rattle.frontmatter.proofs.find_fence.Goals as goal
+
+pub loop-c-init : goal.loop-c-init
+loop-c-init c = fencing _ _ _
+
+pub returns-in_default : goal.returns-in_default
+returns-in_default c = search fencing_over
+
+pub returns-then-count-fence : goal.returns-then-count-fence
+returns-then-count-fence c = search fencing_found
+
+pub loop-c-smaller-then-c-eq10 : goal.loop-c-smaller-then-c-eq10
+loop-c-smaller-then-c-eq10 c = search fencing_less
+
+pub loop-c-preserved-then-c-eq10 : goal.loop-c-preserved-then-c-eq10
+loop-c-preserved-then-c-eq10 c = search fencing_few
+
+pub loop-c-smaller : goal.loop-c-smaller
+loop-c-smaller c = search fewer_1
+
+pub loop-c-preserved : goal.loop-c-preserved
+loop-c-preserved c = search fencing_other

@@ -1,0 +1,12 @@
+-- `words::eat_continue` meets its contract. A run of characters of one kind (the laws of `Eaten`).
+use Rattle.cursor.proofs.Loops.{Eaten}
+use Rattle.cursor.specs.Cursors.{rest}
+use Rattle.classes.specs.Identifiers.{id_continue}
+use lib.ListN.{length}
+use Rattle.words.proofs.eat_continue.Given as goal
+
+abbrev pub invariant-loop-c : goal.invariant-loop-c
+invariant-loop-c l = Eaten (id_continue l.continues) l.text l.initial.cur l.cur
+
+abbrev pub decreases-loop-c : goal.decreases-loop-c
+decreases-loop-c l = length (rest l.text l.cur)
