@@ -1,5 +1,7 @@
 // One decision over the first character of a token (000's `advance_token`), proved equal to the rule in the book.
 // The end of the text is answered before, where tokens are made: here a first character c was read, and `from` is past it.
+#![tactic(auto)]
+
 ghost use Rattle.std.specs.Prelude.{◌≡◌, []};
 ghost use Rattle.basics.specs.Choice.{and};
 ghost use Rattle.ranges.specs.Rules.{Good};

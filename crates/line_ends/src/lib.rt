@@ -1,4 +1,6 @@
 // Line ends (document 02, W3): CR LF is read as LF, and CR CR LF is found, since a key refuses it.
+#![tactic(auto)]
+
 ghost use Rattle.std.specs.Prelude.{◌≡◌, ◌+◌, ◌<◌, length, drop};
 ghost use Rattle.text.specs.Chars.{chars};
 ghost use Rattle.line_ends.specs.LineEnds.{cr_lf, double_at, double_return};

@@ -1,4 +1,5 @@
 // The key of a text, character by character: the states of a machine that reads each character once and looks at none ahead. Definitions in specs/, laws in proofs/.
+#![tactic(auto)]
 
 // what the last character of a block comment was; a character that ended a pair (/* or */) counts as plain
 #[derive(Clone, Copy)]

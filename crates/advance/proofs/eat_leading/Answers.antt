@@ -1,0 +1,21 @@
+use lib.ListN.{length}
+use Rattle.cursor.specs.Cursors.{rest}
+use Rattle.cursor.proofs.Moves.{fewer_1}
+use Rattle.advance.proofs.Fronts.{Leading, leading_none, leading_on, led_off, led_over}
+use borrow.Author.Rules.{rules}
+use Rattle.advance.proofs.eat_leading.Goals as goal
+
+pub loop-d-init : goal.loop-d-init
+loop-d-init c = leading_none _ _ _
+
+pub loop-d-smaller : goal.loop-d-smaller
+loop-d-smaller c = search fewer_1
+
+pub loop-d-preserved : goal.loop-d-preserved
+loop-d-preserved c = search leading_on
+
+pub returns-else-is_whitespace : goal.returns-else-is_whitespace
+returns-else-is_whitespace c = search led_off
+
+pub returns-in-Over : goal.returns-in-Over
+returns-in-Over c = search led_over

@@ -1,0 +1,16 @@
+-- `advance::other` meets its contract. The guards in their order (Arms).
+use Rattle.advance.proofs.Arms.{white_in, word_in, emoji_in, unknown_in}
+use borrow.Author.Rules.{rules}
+use Rattle.advance.proofs.other.Goals as goal
+
+pub returns-then-is_whitespace : goal.returns-then-is_whitespace
+returns-then-is_whitespace c = search white_in
+
+pub returns-then-id_start : goal.returns-then-id_start
+returns-then-id_start c = search word_in
+
+pub returns-then-emoji_char : goal.returns-then-emoji_char
+returns-then-emoji_char c = search emoji_in
+
+pub returns : goal.returns
+returns c = search unknown_in
