@@ -2,7 +2,7 @@
 use Prim.Native.Nat.{ℕ, suc, ◌+◌, ◌-◌, ◌≤◌, ◌<◌}
 use mathlib.Core.Path.{◌≡◌, refl, sym, ap, ◌∙◌}
 use mathlib.Core.Bool.{Bool, true, false}
-use mathlib.Core.List.{List, [], ◌∷◌, ◌++◌, append_assoc}
+use mathlib.Core.List.{List, [], ◌∷◌, ◌++◌}
 use borrow.Author.Tests.{eq-eqb, ne_eqb, eqb-true, eqb-false}
 use lib.ListN.{length, take, drop, get_or, drop_of_length-le, length-drop}
 use lib.Dec.{eqb}
@@ -18,9 +18,6 @@ use Rattle.fields.specs.Pieces.{piece, after, Parted, parts, onto, parted}
 pub record Finding (s : List ℕ) (mark from i : ℕ) : Type 0 where
   pub same : i + length (piece mark (drop i s)) ≡ from + length (piece mark (drop from s))
   pub within : i ≤ length s
-
-pub find_starts : {s : List ℕ} {mark from : ℕ} → from ≤ length s → Finding s mark from from
-find_starts h = record { same = refl; within = h }
 
 module _ {s : List ℕ} {mark from i : ℕ} (f : Finding s mark from i) where
   pub find_here : i < length s → get_or s i 0 ≡ mark → i ≡ from + length (piece mark (drop from s))

@@ -4,16 +4,15 @@ use mathlib.Core.Path.{◌≡◌, refl, sym, ap, ◌∙◌}
 use mathlib.Core.Bool.{Bool, true, false, not}
 use mathlib.Core.Logic.{◌⊎◌, inl, inr, ⊎_elim}
 use mathlib.Core.List.{List, [], ◌∷◌, ◌++◌, append_assoc, append-nil}
-use borrow.Author.Tests.{lt-ltb, le-ltb, ltb-true, leb-true, le-leb, eq-eqb, ne_eqb, eqb-true, eqb-false, not-true}
+use borrow.Author.Tests.{lt-ltb, le-ltb, ltb-true, leb-true, le-leb, eq-eqb, ne_eqb, eqb-false, not-true}
 use lib.ListN.{length, get_or, length-append, get_or-append}
 use lib.Dec.{ltb, leb, eqb}
-use native.Mathlib.Nat.{mod-lt, div-lt_self, div-add-mod', mul-add-div_right, mul-add-mod_self_right, mod-eq_of_lt, div-eq_of_lt, mul-le-mul_left, mul-le-mul_right, le_refl}
+use native.Mathlib.Nat.{mod-lt, div-lt_self, div-add-mod', mul-add-div_right, mul-add-mod_self_right, mod-eq_of_lt, div-eq_of_lt, mul-le-mul_left, mul-le-mul_right}
 use native.Mathlib.Omega.{arith}
 use Rattle.basics.specs.Choice.{pick, and, or}
-use Rattle.basics.specs.Tests.{within, all, is_in}
-use Rattle.basics.proofs.Choices.{below_or_not, yes_or_no, and_1, and_2, and_both}
+use Rattle.basics.specs.Tests.{all, is_in}
+use Rattle.basics.proofs.Choices.{below_or_not, and_1, and_2, and_both}
 use Rattle.fields.specs.Numerals.{digit_byte, lowest_digits, numeral, digit_of, is_digit, value_from, unpadded, valued_from, number_of, Base}
-use Rattle.fields.specs.declared.Numeral.{Numeral}
 use Rattle.fields.specs.declared.Numeral.TheVariants.{Value, Bad}
 use Rattle.fields.proofs.Cuts.{unmarked_append}
 use Rattle.fields.proofs.Values.{digit_low, digit_letter, digit_under, digit_between, digit_over}
@@ -147,7 +146,7 @@ module _ {base : ℕ} (b : Base base) where
           rw (le-ltb n base e) (ap (λ (s : List ℕ). s ++ (digit_byte (n % base) ∷ [])) (f (omega arith) (omega arith)))
 
   -- one digit more
-  numeral_snoc : (n d : ℕ) → 0 < n → d < base → numeral base (n * base + d) ≡ numeral base n ++ (digit_byte d ∷ [])
+  pub numeral_snoc : (n d : ℕ) → 0 < n → d < base → numeral base (n * base + d) ≡ numeral base n ++ (digit_byte d ∷ [])
   unfolding numeral
   numeral_snoc n d h l =
       let g : n * 2 ≤ n * base = mul-le-mul_left n b.least in
@@ -167,7 +166,7 @@ module _ {base : ℕ} (b : Base base) where
       ∙ append_assoc (numeral base n) (digit_byte (digit_of c) ∷ []) s
       ∙ ap (λ (x : ℕ). numeral base n ++ (x ∷ s)) (byte_of_digit c (omega (arith, b.most)))
 
-  one_digit : (n : ℕ) → n < base → numeral base n ≡ digit_byte n ∷ []
+  pub one_digit : (n : ℕ) → n < base → numeral base n ≡ digit_byte n ∷ []
   unfolding numeral
   one_digit n h = rw (lt-ltb n base h) refl
 

@@ -1,26 +1,22 @@
--- The fewest digits that hold a number are the number as it is written.
+-- A number laid digit by digit from the last one on is the number as it is written; and how many digits that is.
 use Prim.Native.Nat.{ℕ, zero, suc, ◌+◌, ◌-◌, ◌*◌, ◌/◌, ◌%◌, ◌^◌, ◌≤◌, ◌<◌}
-use mathlib.Core.Path.{◌≡◌, refl, sym, ap, subst, ◌∙◌}
-use mathlib.Core.Bool.{Bool, true, false, cond}
-use mathlib.Core.List.{List, [], ◌∷◌, ◌++◌}
+use mathlib.Core.Path.{◌≡◌, sym, ap, ◌∙◌}
+use mathlib.Core.List.{List, [], ◌∷◌, ◌++◌, append_assoc}
 use mathlib.Core.Logic.{⊎_elim}
 use borrow.Author.Tests.{lt-ltb, le-ltb}
 use lib.Dec.{ltb}
-use lib.ListN.{length, take, length-append}
-use native.Mathlib.Nat.{pow-suc, pow-zero, mod-eq_of_lt, div-lt_iff_lt-mul, le-div_iff_mul-le, div-lt_self, mul-le-mul_left, mul-le-mul_right}
+use lib.ListN.{length, drop, set, length-append, length-drop, length-set}
+use native.Mathlib.Nat.{pow-suc, pow-zero, mod-lt, div-add-mod', div-lt_iff_lt-mul, le-div_iff_mul-le, div-lt_self, mul-le-mul_left, mul-le-mul_right}
 use native.Mathlib.Omega.{arith}
-use Rattle.basics.specs.Choice.{pick}
+use Rattle.std.proofs.lemmas.List.{drop-set}
 use Rattle.basics.proofs.Choices.{below_or_not, by_pick}
-use Rattle.io.specs.Digits.{last_digits, hex_digit_ascii, IsDigitCount}
-use Rattle.puts.specs.Put.{Put}
 use Rattle.fields.specs.Numerals.{digit_byte, lowest_digits, numeral, Base}
+use Rattle.fields.proofs.Numerals.{numeral_snoc, one_digit}
 
-glyph_byte : (d : ℕ) → hex_digit_ascii d ≡ digit_byte d
-glyph_byte d = same (ltb d 10)
-  where
-    same : (t : Bool) → cond t (48 + d) (87 + d) ≡ pick t (48 + d) (87 + d)
-    same true = refl
-    same false = refl
+-- THE DIGITS LAID from the last one on: those of `rest` are still to be laid, in front of those that stand from `at` on
+pub record Laying (base n : ℕ) (room : List ℕ) (rest at : ℕ) : Type 0 where
+  pub whole : numeral base n ≡ numeral base rest ++ drop at room
+  pub within : at ≤ length room
 
 module _ {base : ℕ} (b : Base base) where
   -- a power is above its exponent
@@ -29,43 +25,6 @@ module _ {base : ℕ} (b : Base base) where
   above (suc i) =
       let h : base ^ i * 2 ≤ base ^ i * base = mul-le-mul_left (base ^ i) b.least in
       omega (arith, pow-suc base i, above i)
-
-  fewest_digits : (k most n : ℕ) → k ≤ most → IsDigitCount base 1 n k → last_digits base k n ≡ lowest_digits base most n
-  fewest_digits zero most n h f = absurd (omega (arith, f.0))
-  fewest_digits (suc k) zero n h f = absurd (omega arith)
-  fewest_digits (suc zero) (suc most) n h f =
-      let p : base ^ 1 ≡ base = pow-suc base 0 ∙ ap (λ (x : ℕ). x * base) (pow-zero base) ∙ omega arith in
-      let l : n < base = omega (arith, f.1) in
-      rw (lt-ltb n base l, mod-eq_of_lt l, glyph_byte n) refl
-  fewest_digits (suc (suc i)) (suc most) n h f =
-      let e : suc (suc i) - 1 ≡ suc i = omega arith in
-      let d : suc i - 1 ≡ i = omega arith in
-      let l : base ^ suc i ≤ n = subst (λ (x : ℕ). base ^ x ≤ n) e (f.2 (omega arith)) in
-      let p : base ^ suc i ≡ base ^ i * base = pow-suc base i in
-      let q : base ^ suc (suc i) ≡ base ^ suc i * base = pow-suc base (suc i) in
-      let m : n < base ^ suc i * base = omega (arith, f.1) in
-      let o : base ^ i * base ≤ n = omega arith in
-      let z : 0 < base = omega (arith, b.least) in
-      let lower : base ^ i ≤ n / base = (le-div_iff_mul-le z).1 o in
-      let upper : n / base < base ^ suc i = (div-lt_iff_lt-mul z).1 m in
-      let one : 1 * base ≤ n = omega (arith, above i, grown i) in
-      let ih : last_digits base (suc i) (n / base) ≡ lowest_digits base most (n / base) = fewest_digits (suc i) most (n / base) (omega arith) (omega arith, upper, λ _. subst (λ (x : ℕ). base ^ x ≤ n / base) (sym d) lower) in
-      rw (le-ltb n base (omega arith), ih, glyph_byte (n % base)) refl
-    where
-      grown : (i : ℕ) → 1 * base ≤ base ^ i * base
-      grown i = mul-le-mul_right base (omega (arith, above i))
-
-  few_turns : (n k : ℕ) → IsDigitCount base 1 n k → k ≤ suc n
-  few_turns n zero f = omega arith
-  few_turns n (suc zero) f = omega arith
-  few_turns n (suc (suc i)) f =
-      let e : suc (suc i) - 1 ≡ suc i = omega arith in
-      let l : base ^ suc i ≤ n = subst (λ (x : ℕ). base ^ x ≤ n) e (f.2 (omega arith)) in
-      omega (arith, above (suc i))
-
-  the_numeral : (n k : ℕ) → IsDigitCount base 1 n k → last_digits base k n ≡ numeral base n
-  unfolding numeral
-  the_numeral n k f = fewest_digits k (suc n) n (few_turns n k f) f
 
   -- a number below a power has at most as many digits as the exponent says
   few_last : (k most n : ℕ) → n < base ^ suc k → length (lowest_digits base most n) ≤ suc k
@@ -113,16 +72,40 @@ module _ {base : ℕ} (b : Base base) where
   unfolding numeral
   more_digits k n h = more_last k (suc n) n (omega arith) h
 
-  -- DIGITS THAT WERE MADE: there is room for them, and put they are the number
-  module _ (n k : ℕ) (t : List ℕ) (f : IsDigitCount base 1 n k) (d : take k t ≡ last_digits base k n) where
-    made : take k t ≡ numeral base n
-    made = d ∙ the_numeral n k f
+  -- any number has a digit
+  some_digits : (n : ℕ) → 1 ≤ length (numeral base n)
+  unfolding numeral
+  some_digits n = some_last (suc n) n (omega arith)
 
-    pub made_same : length (take k t) ≡ length (numeral base n)
-    made_same = ap length made
+  -- a number that is more than a digit is its last digit after the number of the others
+  parted_digit : (n : ℕ) → base ≤ n → numeral base n ≡ numeral base (n / base) ++ (digit_byte (n % base) ∷ [])
+  parted_digit n h =
+      let z : 0 < base = omega (arith, b.least) in
+      let o : 1 ≤ n / base = (le-div_iff_mul-le z).1 (omega arith) in
+      ap (numeral base) (sym (div-add-mod' n base)) ∙ numeral_snoc b (n / base) (n % base) o (mod-lt n z)
 
-    pub made_put : {o p : List ℕ} {at r : ℕ} → Put (take k t) o at p r → Put (numeral base n) o at p r
-    made_put {o} {p} {at} {r} q = subst (λ (xs : List ℕ). Put xs o at p r) made q
+  -- a digit laid in front of those that stand
+  digit_laid : (front : List ℕ) (c at : ℕ) (room : List ℕ) → 0 < at → at ≤ length room → (front ++ (c ∷ [])) ++ drop at room ≡ front ++ drop (at - 1) (set room (at - 1) c)
+  digit_laid front c at room h w =
+      let e : at - 1 + 1 ≡ at = omega arith in
+      append_assoc front (c ∷ []) (drop at room) ∙ ap (λ (l : List ℕ). front ++ l) (ap (λ (k : ℕ). c ∷ drop k room) (sym e) ∙ sym (drop-set room (at - 1) c (omega arith)))
+
+  module _ {n rest at : ℕ} {room : List ℕ} (l : Laying base n room rest at) (r : length (numeral base n) ≤ length room) where
+    -- where digits are to be laid, there is room for one
+    pub lay_room : 0 < at
+    lay_room =
+        let s : 1 ≤ length (numeral base rest) = some_digits rest in
+        omega (arith, ap length l.whole, length-append (numeral base rest) (drop at room), length-drop at room, l.within)
+
+    pub lay_on : {c : ℕ} → c ≡ digit_byte (rest % base) → base ≤ rest → Laying base n (set room (at - 1) c) (rest / base) (at - 1)
+    lay_on {c} e h =
+        record {
+          whole = l.whole ∙ ap (λ (p : List ℕ). p ++ drop at room) (parted_digit rest h) ∙ rw (← e) (digit_laid (numeral base (rest / base)) c at room lay_room l.within);
+          within = simp length-set (omega (arith, l.within));
+        }
+
+    pub lay_ends : {c : ℕ} → c ≡ digit_byte rest → rest < base → drop (at - 1) (set room (at - 1) c) ≡ numeral base n
+    lay_ends {c} e h = sym (l.whole ∙ ap (λ (p : List ℕ). p ++ drop at room) (one_digit b rest h) ∙ rw (← e) (digit_laid [] c at room lay_room l.within))
 
 pub ten : Base 10
 ten = record { least = omega arith; most = omega arith }

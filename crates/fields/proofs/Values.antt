@@ -1,17 +1,17 @@
 -- The number that a field says: digits from the left.
 use Prim.Native.Nat.{ℕ, suc, ◌+◌, ◌-◌, ◌*◌, ◌≤◌, ◌<◌}
 use mathlib.Core.Path.{◌≡◌, refl, sym, ap, ◌∙◌}
-use mathlib.Core.Bool.{Bool, true, false, not}
+use mathlib.Core.Bool.{Bool, true, false}
 use mathlib.Core.List.{List, [], ◌∷◌}
-use borrow.Author.Tests.{le-ltb, lt-ltb, le-leb, lt-leb, eq-eqb, ne_eqb}
+use borrow.Author.Tests.{lt-ltb, le-leb, lt-leb}
 use lib.ListN.{length, drop, get_or, drop_of_length-le}
-use lib.Dec.{ltb, leb, eqb}
+use lib.Dec.{ltb, leb}
 use lib.Seq.{drop-cons}
-use native.Mathlib.Nat.{mul-le-mul_left, mul-le-mul}
+use native.Mathlib.Nat.{mul-le-mul_left}
 use native.Mathlib.Numerals.{add-one}
 use native.Mathlib.Omega.{arith}
 use Rattle.basics.specs.Choice.{pick, and}
-use Rattle.basics.specs.Tests.{within, all}
+use Rattle.basics.specs.Tests.{all}
 use Rattle.basics.proofs.Choices.{inside_within, under_within, over_within}
 use Rattle.fields.specs.Numerals.{digit_of, is_digit, value_from, unpadded, valued_from, number_of, Base}
 use Rattle.fields.specs.declared.Numeral.{Numeral}
@@ -33,16 +33,6 @@ digit_between c l h = rw (over_within 48 57 c (omega arith) l, under_within 97 1
 pub digit_over : (c : ℕ) → 102 < c → 16 ≡ digit_of c
 digit_over c h = rw (over_within 48 57 c (omega arith) (omega arith), over_within 97 102 c (omega arith) h) refl
 
--- no leading zero
-pub empty_padded : (s : List ℕ) → length s ≡ 0 → false ≡ unpadded s
-empty_padded s h = rw h refl
-
-pub single_unpadded : (s : List ℕ) → length s ≡ 1 → true ≡ unpadded s
-single_unpadded s h = rw h refl
-
-pub first_tells : (s : List ℕ) → (length s ≡ 0 → ⊥) → (length s ≡ 1 → ⊥) → not (eqb (get_or s 0 0) 48) ≡ unpadded s
-first_tells s h k = rw (le-leb 1 (length s) (omega arith), ne_eqb (length s) 1 k) refl
-
 -- MORE DIGITS make no number smaller
 pub value_grows : {base : ℕ} → Base base → (n : ℕ) (s : List ℕ) → n ≤ value_from base n s
 unfolding value_from
@@ -57,22 +47,9 @@ pub record Valuing (base most : ℕ) (s : List ℕ) (n i : ℕ) : Type 0 where
   pub small : n ≤ most
   pub within : i ≤ length s
 
-pub value_starts : (base most : ℕ) (s : List ℕ) → Valuing base most s 0 0
-value_starts base most s = record { same = refl; small = omega arith; within = omega arith }
-
--- a digit more does not lead past 64 bits
-pub join_fits : (n base : ℕ) → n ≤ 4294967295 → base ≤ 16 → n * base ≤ 68719476720
-join_fits n base h b = mul-le-mul h b
-
 module _ {base most : ℕ} {s : List ℕ} {n i d : ℕ} (v : Valuing base most s n i) (h : i < length s) (e : d ≡ digit_of (get_or s i 0)) where
   opened : valued_from base most n (drop i s) ≡ valued_from base most n (get_or s i 0 ∷ drop (suc i) s)
   opened = ap (valued_from base most n) (drop-cons s i 0 h)
-
-  pub no_digit : base ≤ d → Bad ≡ valued_from base most 0 s
-  unfolding value_from
-  no_digit g =
-      let t : ltb (digit_of (get_or s i 0)) base ≡ false = le-ltb _ base (omega arith) in
-      sym (opened ∙ rw t refl) ∙ v.same
 
   module _ (g : d < base) where
     turned : {m : ℕ} → m ≡ n * base + d → valued_from base most n (drop i s) ≡ valued_from base most m (drop (i + 1) s)

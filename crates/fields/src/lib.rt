@@ -1,10 +1,12 @@
 // Text files of lines whose fields stand between tabs (document 02, W1): where a piece of a text ends, whether a field is a word, and numbers in decimal
 // and in hexadecimal, with no zero in front.
-ghost use Rattle.std.specs.Prelude.{◌+◌, ◌*◌, ◌≤◌, ◌≡◌, length, drop};
+#![tactic(auto)]
+
+ghost use Rattle.std.specs.Prelude.{◌+◌, ◌*◌, ◌<◌, ◌≤◌, ◌≡◌, length, drop};
 ghost use Rattle.puts.specs.Put.{Put};
 ghost use Rattle.fields.specs.Pieces.{piece};
 ghost use Rattle.fields.specs.Words;
-ghost use Rattle.fields.specs.Numerals.{numeral, digit_of, valued_from, number_of, Base, Joins};
+ghost use Rattle.fields.specs.Numerals.{numeral, digit_byte, digit_of, valued_from, number_of, Base, Joins};
 ghost use Rattle.fields.specs.Numerals;
 ghost use Rattle.fields.specs.Puts.{Fits};
 
@@ -34,7 +36,7 @@ pub fn find(s: &[u8], from: usize, mark: u8) -> usize
 pub fn is_word(field: &[u8], word: &[u8]) -> bool
     ensures { result ≡ Words.same field.now word.now }
 {
-    check::same(field, word)
+    field == word
 }
 
 // The digit that a byte is; 16 where it is none.
@@ -101,14 +103,41 @@ pub fn number_of(field: &[u8], base: u32, most: u32) -> Numeral
     Numeral::Bad
 }
 
+// The byte of a digit.
+fn digit_byte(d: u32) -> u8
+    requires { d < 16 }
+    ensures { result ≡ digit_byte d }
+{
+    if d < 10 { 48 + d as u8 } else { 87 + d as u8 }
+}
+
+// Lays a number at the end of a room that is long enough, its last digit first; the place of its first digit.
+fn lay(room: &mut [u8], base: u32, n: u32) -> usize
+    requires base { Base base }
+    requires room { length (numeral base n) ≤ length room.old }
+    ensures within { result ≤ length room.new }
+    ensures laid { drop result room.new ≡ numeral base n }
+{
+    let mut at = room.len();
+    let mut rest = n;
+    while base <= rest {
+        at -= 1;
+        room[at] = digit_byte(rest % base);
+        rest /= base;
+    }
+    at -= 1;
+    room[at] = digit_byte(rest);
+    at
+}
+
 // Puts a number in decimal.
 pub fn put_decimal(out: &mut [u8], at: usize, n: u32) -> usize
     requires { Fits 10 out.old at n }
     ensures { Put (numeral 10 n) out.old at out.new result }
 {
-    let mut text = [0u8; 20];
-    let k = io::decimal(n as u64, &mut text);
-    puts::put_bytes(out, at, &text[..k])
+    let mut room = [0u8; 10];
+    let first = lay(&mut room, 10, n);
+    puts::put_bytes(out, at, &room[first..])
 }
 
 // Puts a number in hexadecimal.
@@ -116,7 +145,7 @@ pub fn put_hex(out: &mut [u8], at: usize, n: u32) -> usize
     requires { Fits 16 out.old at n }
     ensures { Put (numeral 16 n) out.old at out.new result }
 {
-    let mut text = [0u8; 16];
-    let k = io::hex(n as u64, 1, &mut text);
-    puts::put_bytes(out, at, &text[..k])
+    let mut room = [0u8; 8];
+    let first = lay(&mut room, 16, n);
+    puts::put_bytes(out, at, &room[first..])
 }
