@@ -19,7 +19,6 @@ use Rattle.token.specs.declared.TokenKind.{TokenKind}
 use Rattle.token.specs.declared.TokenKind.TheVariants as kind
 use Rattle.token.specs.declared.LiteralKind.TheVariants.{CStr, RawCStr, Str}
 use Rattle.token.specs.Lists.{Lists, lent, smiling}
-use Rattle.token.specs.Names.{is, '#', 'double'}
 use Rattle.token.specs.Literals.{literal}
 use Rattle.token.specs.Whitespace.{whitespace}
 use Rattle.token.specs.Comments.{slash}

@@ -1,4 +1,6 @@
 // What a character does in a comment, mode by mode.
+#![tactic(auto)]
+
 ghost use Rattle.std.specs.Prelude.{◌≡◌, ◌<◌};
 ghost use Rattle.token.specs.Names.{is, 'newline'};
 ghost use Rattle.machine.specs.declared.Last.TheVariants.{AStar};

@@ -1,5 +1,7 @@
 // The machine of the key (crate `machine`) over a run of bytes, with CR LF read as LF: what is known of the key is laid into a lent buffer, or only
 // counted. A key is measured and written by the same code.
+#![tactic(auto)]
+
 ghost use Rattle.std.specs.Prelude.{◌≡◌, length};
 ghost use Rattle.basics.specs.Choice.{pick};
 ghost use Rattle.token.specs.Lists.{lent};

@@ -1,4 +1,6 @@
 // What a character does to the token before it: the answer that the crates of the turns give, mode by mode, and the suffix of a literal, with which several of them end.
+#![tactic(auto)]
+
 ghost use Rattle.std.specs.Prelude.{◌≡◌};
 ghost use Rattle.ranges.specs.Rules.{Good};
 ghost use Rattle.goes.specs.Suffix.{suffix_goes};

@@ -1,4 +1,6 @@
 // The state of a key in pieces as code: before the first byte, the bytes that wait, and which states are taken.
+#![tactic(auto)]
+
 ghost use Rattle.std.specs.Prelude.{◌≡◌, ◌≤◌, length, drop};
 ghost use Rattle.machine.specs.Pieces as machine;
 ghost use Rattle.key_state.specs.Kept.{kept_bytes, to_kept};

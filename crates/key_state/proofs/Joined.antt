@@ -1,6 +1,6 @@
 -- BYTES AND MORE BYTES (document 02, W13): to read them one after the other is to read them at once, from any state on.
-use Prim.Native.Nat.{ℕ, ◌+◌, ◌-◌, ◌≤◌}
-use mathlib.Core.Path.{◌≡◌, refl, sym, ap, subst, ◌∙◌}
+use Prim.Native.Nat.{ℕ, ◌+◌, ◌-◌}
+use mathlib.Core.Path.{◌≡◌, refl, sym, ap, ◌∙◌}
 use mathlib.Core.List.{List, [], ◌∷◌, ◌++◌, append_assoc}
 use lib.ListN.{length, take, drop, length-append, length-drop, take-append-drop}
 use lib.Seq.{take-append-le, take-append-add, drop-append-add, length-take-le}
@@ -21,11 +21,11 @@ use Rattle.waits.specs.declared.Ready.{Ready}
 use Rattle.waits.specs.Waits.{ready_of}
 use Rattle.waits.specs.Shifts.{ill_from}
 use Rattle.waits.proofs.Apart.{Apart, double_apart}
-use Rattle.waits.proofs.Parts.{ready_from, ready_within, part_well, kept_few, parts_apart, ready_more, ready_stays}
+use Rattle.waits.proofs.Parts.{ready_within, part_well, kept_few, parts_apart, ready_more, ready_stays}
 use Rattle.key_state.specs.declared.Kept.{Kept}
 use Rattle.key_state.specs.declared.Kept.TheVariants.{Nothing}
 use Rattle.key_state.specs.declared.KeyState.{KeyState}
-use Rattle.key_state.specs.Kept.{kept_bytes, to_kept}
+use Rattle.key_state.specs.Kept.{kept_bytes}
 use Rattle.key_state.specs.Reads.{base_of, ready_after, kept_after, first_found, read_on}
 use Rattle.key_state.proofs.Parts.{and_then, fed_parts, mark_parts, found_parts, found_none, kept_again}
 

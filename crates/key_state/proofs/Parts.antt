@@ -10,10 +10,9 @@ use Rattle.text.specs.Chars.{chars, size, width, WellFormed}
 use Rattle.eaters.specs.Find.{Place, at, nowhere, or_else}
 use Rattle.places.specs.declared.Found.{Found}
 use Rattle.places.specs.declared.Found.TheVariants as found
-use Rattle.places.specs.Found.{found_at, place_of}
 use Rattle.places.specs.Shifts.{shifted}
 use Rattle.token.specs.Lists.{Lists}
-use Rattle.line_ends.specs.LineEnds.{replaced, double_return}
+use Rattle.line_ends.specs.LineEnds.{replaced}
 use Rattle.line_ends.proofs.Coded.{un_chars, un_well}
 use Rattle.marks.specs.Marks.{hidden, mark_from, hidden_mark}
 use Rattle.machine.specs.Streams.{Fed}
@@ -22,7 +21,6 @@ use Rattle.machine.specs.Pieces.{read, feed}
 use Rattle.machine.proofs.Streams.{feed_append}
 use Rattle.waits.proofs.Apart.{Apart, replaced_apart}
 use Rattle.waits.proofs.Joins.{chars_append, well_append}
-use Rattle.key_state.specs.declared.Kept.{Kept}
 use Rattle.key_state.specs.Kept.{kept_bytes, to_kept}
 use Rattle.key_state.specs.Reads.{first_found}
 

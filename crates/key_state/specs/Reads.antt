@@ -1,5 +1,5 @@
 -- What a piece of a text does to the state (document 02, W13). The bytes that wait are put before it; of all of them those that can be read now are keyed, and the rest waits.
-use Rattle.std.specs.Prelude.{ℕ, ◌+◌, ◌-◌, List, [], ◌∷◌, ◌++◌, false, length, take, drop, ltb}
+use Rattle.std.specs.Prelude.{ℕ, ◌+◌, ◌-◌, List, [], ◌++◌, length, take, drop, ltb}
 use Rattle.basics.specs.Choice.{pick}
 use Rattle.text.specs.Chars.{chars}
 use Rattle.eaters.specs.Find.{Place, or_else}

@@ -1,5 +1,7 @@
 // What a key in pieces holds between two calls (document 02, W13): the machine after what was read, the bytes that wait for more, how many bytes were handed in, and what the end
 // call will refuse.
+#![tactic(auto)]
+
 use machine::State;
 use places::Found;
 use waits::Ill;

@@ -1,4 +1,6 @@
 // The public call for one token, with its refusals, and the step for loops over a text that was checked once.
+#![tactic(auto)]
+
 ghost use Rattle.std.specs.Prelude.{◌≡◌, ◌≤◌, length};
 ghost use Rattle.line_feeds.specs.Feeds.{feeds_before};
 ghost use Rattle.token.specs.Lists.{lent};

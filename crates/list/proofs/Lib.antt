@@ -1,3 +1,3 @@
-mod Lent
+pub mod Fills
 pub mod Answers
 pub mod Alike

@@ -1,4 +1,6 @@
-// The tokens of a text as records in a lent run: 000's `tokenize`. The functions over `[Token]` are proved by walks of their code.
+// The tokens of a text as records in a lent run: 000's `tokenize`.
+#![tactic(auto)]
+
 ghost use Rattle.std.specs.Prelude.{◌≡◌, ◌++◌, ◌≤◌, length, drop, get_or};
 ghost use Rattle.token.specs.Lists.{lent};
 ghost use Rattle.lexer.specs.Steps.{following};

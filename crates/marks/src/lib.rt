@@ -1,4 +1,6 @@
 // Hidden direction marks (document 02, W6): where the first one of a text stands, since a key refuses it.
+#![tactic(auto)]
+
 ghost use Rattle.std.specs.Prelude.{◌≡◌, ◌<◌, length, drop};
 ghost use Rattle.text.specs.Chars.{WellFormed};
 ghost use Rattle.places.specs.Found.{found_at};

@@ -1,4 +1,6 @@
 // What a character does in a number, mode by mode.
+#![tactic(auto)]
+
 ghost use Rattle.std.specs.Prelude.{◌≡◌};
 ghost use Rattle.basics.specs.Tests.{within};
 ghost use Rattle.ranges.specs.Rules.{Good};

@@ -1,4 +1,6 @@
 // What the list call answers, and what it is to write: every refusal is found, and the tokens are counted, before the first record is written.
+#![tactic(auto)]
+
 ghost use Rattle.std.specs.Prelude.{◌≡◌, length};
 ghost use Rattle.token.specs.Lists.{lent};
 ghost use Rattle.token.specs.Tokens.{records};

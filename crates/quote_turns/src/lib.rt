@@ -1,4 +1,6 @@
 // What a character does in a string, in single quotes, in a lifetime and in a raw string, mode by mode.
+#![tactic(auto)]
+
 ghost use Rattle.std.specs.Prelude.{◌≡◌, ◌<◌};
 ghost use Rattle.basics.specs.Choice.{and, or};
 ghost use Rattle.ranges.specs.Rules.{Good};

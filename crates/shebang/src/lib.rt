@@ -1,6 +1,8 @@
 // Where a shebang ends (000's `strip_shebang`), proved equal to the rule in the book, in linear time.
 //
 // Nothing is asked of the text, and no list is lent: any lists give the same answer.
+#![tactic(auto)]
+
 ghost use Rattle.std.specs.Prelude.{◌≡◌, ◌+◌};
 ghost use Rattle.token.specs.Advance.{plain};
 ghost use Rattle.token.specs.Shebang.{line_bytes, is_bracket, bracketed};

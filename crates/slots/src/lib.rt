@@ -1,5 +1,7 @@
 // The tokens of a text as numbers in a lent run, five a token: kind code, suffix start, length, start, line. Every refusal is found, and the tokens are
 // counted, before the first number is written.
+#![tactic(auto)]
+
 ghost use Rattle.std.specs.Prelude.{◌+◌, ◌≤◌, [], ◌∷◌, length};
 ghost use Rattle.token.specs.Lists.{lent};
 ghost use Rattle.puts.specs.Put.{Put};

@@ -1,4 +1,6 @@
 // One character of the machine of crate `machine`, in any mode: what it does to the token before it, what begins with it, and both in one.
+#![tactic(auto)]
+
 ghost use Rattle.std.specs.Prelude.{◌≡◌};
 ghost use Rattle.ranges.specs.Rules.{Good};
 ghost use Rattle.token.specs.Lists.{lent};

@@ -1,15 +1,15 @@
 -- THE CRs THAT END SOME BYTES: which they may be, where they begin, and what becomes of them when more bytes come.
-use Prim.Native.Nat.{ℕ, suc, ◌+◌, ◌-◌, ◌≤◌}
+use Prim.Native.Nat.{ℕ, suc, ◌-◌}
 use mathlib.Core.Path.{◌≡◌, refl, sym, ap, subst, ◌∙◌}
 use mathlib.Core.List.{List, [], ◌∷◌, ◌++◌}
 use mathlib.Core.Bool.{Bool, true, false}
-use lib.ListN.{length, take, drop, length-append}
+use lib.ListN.{length, drop}
 use lib.Dec.{eqb}
 use borrow.Author.Tests.{eqb-true}
 use native.Mathlib.Omega.{arith}
-use Rattle.basics.specs.Choice.{pick, and}
+use Rattle.basics.specs.Choice.{pick}
 use Rattle.basics.proofs.Choices.{and_1, and_2}
-use Rattle.token.specs.Names.{is, 'carriage_return'}
+use Rattle.token.specs.Names.{'carriage_return'}
 use Rattle.waits.specs.Waits.{returns, last_returns}
 use Rattle.waits.proofs.Returns.{few_returns}
 

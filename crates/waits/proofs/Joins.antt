@@ -1,29 +1,25 @@
 -- WELL-FORMED BYTES, AND MORE: characters, and what refuses the bytes, are those of the two parts.
-use Prim.Native.Nat.{ℕ, ◌+◌, ◌-◌, ◌≤◌}
+use Prim.Native.Nat.{ℕ, ◌+◌}
 use mathlib.Core.Path.{◌≡◌, refl, sym, ap, subst, ◌∙◌}
-use mathlib.Core.Bool.{Bool, true, false}
+use mathlib.Core.Bool.{true}
 use mathlib.Core.List.{List, [], ◌∷◌, ◌++◌, append_assoc}
 use mathlib.Core.Logic.{◌⊎◌, inl, inr, ⊎_elim}
-use lib.ListN.{length, take, drop, length-append, length-drop, take-append-drop}
+use lib.ListN.{length, take, drop, length-append}
 use lib.Seq.{take_at, drop-append-le, drop-append-add}
 use lib.Dec.{eqb}
 use borrow.Author.Tests.{eqb-true, eqb-false, eq-eqb, ne_eqb}
 use native.Mathlib.Omega.{arith}
-use Rattle.basics.specs.Choice.{pick}
 use Rattle.basics.proofs.Choices.{yes_or_no}
 use Rattle.refusal.specs.declared.Cause.{Cause}
-use Rattle.refusal.specs.declared.Cause.TheVariants.{Start, Cut, Follow}
+use Rattle.refusal.specs.declared.Cause.TheVariants.{Cut}
 use Rattle.refusal.specs.declared.Bad.TheVariants.{NotUtf8}
-use Rattle.refusal.specs.declared.Verdict.{Verdict}
 use Rattle.refusal.specs.declared.Verdict.TheVariants.{Fine, Refused}
-use Rattle.text.specs.declared.Decoded.{Decoded}
 use Rattle.text.specs.declared.Decoded.TheVariants.{Ill}
 use Rattle.text.specs.Utf8.{decoded}
 use Rattle.text.specs.Chars.{chars, size, encode, Scalars, nil, cons, WellFormed}
 use Rattle.text.specs.Position.{starts_here}
-use Rattle.text.specs.Verdicts.{cause_of, utf8_verdict}
+use Rattle.text.specs.Verdicts.{utf8_verdict}
 use Rattle.text.proofs.Texts.{scalars, front, length_encode, encode_chars, chars_encode_append, well_encode, size_chars, stepped}
-use Rattle.text.proofs.Stops.{first_ill}
 use Rattle.text.proofs.Causes.{ill_for_good}
 use Rattle.text.proofs.Positions.{boundary_parts, boundary_byte}
 use Rattle.token.proofs.Cover.{size_append}

@@ -10,7 +10,6 @@ use Rattle.refusal.specs.declared.Verdict.{Verdict}
 use Rattle.refusal.specs.declared.Verdict.TheVariants.{Fine, Refused}
 use Rattle.text.specs.Verdicts.{utf8_verdict}
 use Rattle.token.specs.Names.{is, 'carriage_return'}
-use Rattle.waits.specs.declared.Ill.{Ill}
 use Rattle.waits.specs.declared.Ill.TheVariants.{Nowhere, At}
 use Rattle.waits.specs.declared.Ready.{Ready}
 

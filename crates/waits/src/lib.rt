@@ -1,4 +1,6 @@
 // Bytes of which more are to come (document 02, W13): how many of them can be read now, and whether they are ill-formed whatever comes.
+#![tactic(auto)]
+
 ghost use Rattle.std.specs.Prelude.{◌≡◌, length};
 ghost use Rattle.waits.specs.Waits.{last_returns, stopped_at, up_to, ready_of};
 

@@ -1,4 +1,6 @@
 // What a character does in a word, and after the prefix of one, of a string or of a raw string, mode by mode.
+#![tactic(auto)]
+
 ghost use Rattle.std.specs.Prelude.{◌≡◌};
 ghost use Rattle.basics.specs.Choice.{or};
 ghost use Rattle.ranges.specs.Rules.{Good};

@@ -1,6 +1,5 @@
 -- `advance::advance_token` meets its contract. On, or off (Fronts).
 use Rattle.advance.proofs.Fronts.{on_in, off_in}
-use borrow.Author.Rules.{rules}
 use Rattle.advance.proofs.advance_token.Goals as goal
 
 pub returns-then-on : goal.returns-then-on

@@ -1,6 +1,5 @@
 -- `advance::after_hash` meets its contract. The prefix of a guarded string, or a hash alone (Arms).
 use Rattle.advance.proofs.Arms.{hash_mark, hash_alone}
-use borrow.Author.Rules.{rules}
 use Rattle.advance.proofs.after_hash.Goals as goal
 
 pub returns-then-is_hash_or_quote : goal.returns-then-is_hash_or_quote

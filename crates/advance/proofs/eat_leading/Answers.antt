@@ -1,8 +1,5 @@
-use lib.ListN.{length}
-use Rattle.cursor.specs.Cursors.{rest}
 use Rattle.cursor.proofs.Moves.{fewer_1}
-use Rattle.advance.proofs.Fronts.{Leading, leading_none, leading_on, led_off, led_over}
-use borrow.Author.Rules.{rules}
+use Rattle.advance.proofs.Fronts.{leading_none, leading_on, led_off, led_over}
 use Rattle.advance.proofs.eat_leading.Goals as goal
 
 pub loop-d-init : goal.loop-d-init

@@ -1,8 +1,7 @@
 -- `advance::eat_leading` meets its contract. `Leading`: the whitespace so far, and its last character (Fronts).
 use lib.ListN.{length}
 use Rattle.cursor.specs.Cursors.{rest}
-use Rattle.cursor.proofs.Moves.{fewer_1}
-use Rattle.advance.proofs.Fronts.{Leading, leading_none, leading_on, led_off, led_over}
+use Rattle.advance.proofs.Fronts.{Leading}
 use Rattle.advance.proofs.eat_leading.Given as goal
 
 abbrev pub invariant-loop-d : goal.invariant-loop-d

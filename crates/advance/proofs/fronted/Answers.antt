@@ -1,6 +1,5 @@
 -- `advance::fronted` meets its contract. Whitespace, a fence, or the decision with frontmatter off (Fronts).
 use Rattle.advance.proofs.Fronts.{leading_in, dashes_in, plain_in}
-use borrow.Author.Rules.{rules}
 use Rattle.advance.proofs.fronted.Goals as goal
 
 pub returns-then-is_whitespace : goal.returns-then-is_whitespace

@@ -1,6 +1,5 @@
 -- `advance::leading` meets its contract. By the last character and what follows (Fronts).
 use Rattle.advance.proofs.Fronts.{newline_in, fence_in, blanks_in}
-use borrow.Author.Rules.{rules}
 use Rattle.advance.proofs.leading.Goals as goal
 
 pub returns-then-last-eq10 : goal.returns-then-last-eq10

@@ -1,6 +1,5 @@
 -- `advance::opens` meets its contract. Dash by dash (Fronts).
 use Rattle.advance.proofs.Fronts.{opens_other, opens_one, opens_two}
-use borrow.Author.Rules.{rules}
 use Rattle.advance.proofs.opens.Goals as goal
 
 pub returns-then-c-ne45 : goal.returns-then-c-ne45

@@ -1,6 +1,5 @@
 -- `advance::other` meets its contract. The guards in their order (Arms).
 use Rattle.advance.proofs.Arms.{white_in, word_in, emoji_in, unknown_in}
-use borrow.Author.Rules.{rules}
 use Rattle.advance.proofs.other.Goals as goal
 
 pub returns-then-is_whitespace : goal.returns-then-is_whitespace

@@ -1,5 +1,5 @@
 -- `advance::plain` meets its contract. At a single point the chain of tests computes; a digit and any other character by what the match leaves (Arms).
-use mathlib.Core.Logic.{inl, inr, ⊎_elim}
+use mathlib.Core.Logic.{inl, inr}
 use Rattle.advance.proofs.Arms.{digit_in, other_in}
 use Rattle.classes.specs.Identifiers.{letter, id_start}
 use Rattle.classes.specs.Whitespace.{is_whitespace}
@@ -8,6 +8,8 @@ use mathlib.Core.Path.{refl}
 use Rattle.token.specs.declared.TokenKind.TheVariants as kind
 use Rattle.advance.proofs.Arms.{slash_in, r_in, k_in, b_in, c_in, hash_in, quote_in, string_in, symbol_in}
 use borrow.Author.Rules.{rules}
+use native.Mathlib.Omega.{arith}
+use Rattle.advance.proofs.plain.Goals.{in_default-via-then-c-lt33, in_default-via-else-c-lt33+else-c-lt58}
 use Rattle.advance.proofs.plain.Goals as goal
 
 pub returns-in-47 : goal.returns-in-47
@@ -135,7 +137,7 @@ pub returns-in-34 : goal.returns-in-34
 returns-in-34 c = search string_in
 
 pub returns-in-48-to-57 : goal.returns-in-48-to-57
-returns-in-48-to-57 c = digit_in _ _ _ (search rules) c.if-c-lt33.false c.if-c-lt58.true c.number_literal.ensures
+returns-in-48-to-57 c = digit_in _ _ _ (search rules) (omega arith) (omega arith) c.number_literal.ensures
 
 pub returns-in_default : goal.returns-in_default
-returns-in_default c = other_in _ _ _ (search rules) (⊎_elim (λ p. inl p.taken) (λ p. inr p.1.left) c.in_default.branch) c.other.ensures
+returns-in_default c = other_in _ _ _ (search rules) (elim c.in_default.branch [ in_default-via-then-c-lt33 w ↦ inl (omega arith) | in_default-via-else-c-lt33+else-c-lt58 w ↦ inr (omega arith) ]) c.other.ensures

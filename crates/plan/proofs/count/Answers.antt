@@ -1,0 +1,17 @@
+use Rattle.plan.proofs.Counting.{counted_none, counted_on, counted_less, counted_all, count_fits}
+use Rattle.plan.proofs.count.Goals as goal
+
+pub loop-at-init : goal.loop-at-init
+loop-at-init c = search counted_none
+
+pub overflow_add-n : goal.overflow_add-n
+overflow_add-n c = search count_fits
+
+pub loop-at-smaller : goal.loop-at-smaller
+loop-at-smaller c = search counted_less
+
+pub loop-at-preserved : goal.loop-at-preserved
+loop-at-preserved c = search counted_on
+
+pub returns : goal.returns
+returns c = search counted_all
