@@ -15,7 +15,6 @@ use Rattle.canon.specs.Keyable.{broken_at}
 use Rattle.canon.specs.Key.{key_of}
 use Rattle.machine.specs.declared.Mode.TheVariants.{Start}
 use Rattle.machine.specs.declared.State.{State}
-use Rattle.machine.specs.Machine.{Result}
 use Rattle.machine.specs.Pieces.{begin, feed, ended}
 use Rattle.machine.specs.OneShot.{key_or, in_bytes}
 use Rattle.machine.proofs.Cut.{one_shot_lem}

@@ -1,5 +1,7 @@
 // The key of a text (document 01, "The key"; document 02, W3 and W6), put into a lent buffer. It is the key of the replaced text, in which each CR LF is LF. Every
 // refusal is found, and the key is measured, before the first byte is written; each pass reads each byte of the text a fixed number of times.
+#![tactic(auto)]
+
 ghost use Rattle.std.specs.Prelude.{◌≡◌};
 ghost use Rattle.token.specs.Lists.{lent};
 ghost use Rattle.lexer.specs.Checked.{Checked};

@@ -94,6 +94,7 @@ pub record Passed (index group : ℕ) (v : Version) (L : Lists) (which : ℕ) (l
 pub load_group : (index group : ℕ) (v : Version) (L : Lists) (which : ℕ) (l t : List ℕ) → Pairs l → which ≤ 2 → group ≤ which → Passed index group v L which l t
 unfolding group_lines
 load_group index group v L which [] t no_pair w g = record { next = index; last = group; small = g; goes = ap (λ (M : Lists). load_at index group v M t) (extended_none which L) }
+load_group index group v L which (low ∷ []) t p w g = elim p [ ]
 load_group index group v L which (low ∷ high ∷ l) t (pair a b p) w g =
     let k : Passed (suc index) which v (added which low high L) which l t = load_group (suc index) which v (added which low high L) which l t p w (omega arith) in
     record {

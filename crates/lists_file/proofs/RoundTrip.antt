@@ -48,6 +48,7 @@ reads_back v L f g =
 group_snoc : (which low high : ℕ) (l : List ℕ) → Pairs l → group_lines which (l ++ (low ∷ high ∷ [])) ≡ group_lines which l ++ line (record_text which low high)
 unfolding group_lines
 group_snoc which low high [] no_pair = append-nil (line (record_text which low high))
+group_snoc which low high (a ∷ []) p = elim p [ ]
 group_snoc which low high (a ∷ b ∷ l) (pair h k p) =
     ap (λ (s : List ℕ). line (record_text which a b) ++ s) (group_snoc which low high l p)
     ∙ sym (append_assoc (line (record_text which a b)) (group_lines which l) (line (record_text which low high)))

@@ -2,6 +2,8 @@
 //
 // The first line is `unicode` and three decimal numbers; then comes one record a line: `start`, `continue` or `emoji`, low and high in hexadecimal. One tab
 // stands between two fields, records come in the order of these names, and every line is ended by LF.
+#![tactic(auto)]
+
 ghost use Rattle.std.specs.Prelude.{◌≤◌, ◌≡◌};
 ghost use Rattle.lists_file.specs.Lines.{which_of, entry_of, pair_of, record_of, version_from, minor_of, major_of, version_of, Sixteen};
 

@@ -1,5 +1,7 @@
 // The line that is printed for a token, put into a lent buffer: the name of its kind, a tab, its length in decimal, and, where it is asked for, a tab and the
 // line feeds before it; a newline.
+#![tactic(auto)]
+
 ghost use Rattle.std.specs.Prelude.{◌+◌, ◌≤◌, length};
 ghost use Rattle.token.specs.Kinds.{kind_name};
 ghost use Rattle.token_line.specs.Line.{front, line, lined_line};

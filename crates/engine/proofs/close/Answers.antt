@@ -1,6 +1,5 @@
 -- `engine::close` meets its contract. What the machine says of the bytes that are left (Closes).
 use Rattle.engine.proofs.Closes.{close_feeds, close_room, close_rest, close_broken}
-use borrow.Author.Rules.{rules}
 use Rattle.engine.proofs.close.Goals as goal
 
 pub run-ran-requires : goal.run-ran-requires

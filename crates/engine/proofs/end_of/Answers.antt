@@ -1,7 +1,6 @@
 -- `engine::end_of` meets its contract. Mode by mode (Ends).
 use Rattle.engine.proofs.Ends.{end_one, end_two, end_three, end_broken, end_quiet}
 use borrow.Enum.Refused.{opened}
-use borrow.Author.Rules.{rules}
 use Rattle.engine.proofs.end_of.Goals as goal
 
 pub returns-in-OneSlash : goal.returns-in-OneSlash

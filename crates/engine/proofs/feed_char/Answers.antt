@@ -1,7 +1,5 @@
 -- `engine::feed_char` meets its contract. What the step says, laid (Feeds).
-use Rattle.engine.proofs.Lays.{laid_length}
 use Rattle.engine.proofs.Feeds.{char_steps, char_lays, char_fed}
-use borrow.Author.Rules.{rules}
 use Rattle.engine.proofs.feed_char.Goals as goal
 
 pub step-stepped-requires : goal.step-stepped-requires

@@ -1,7 +1,5 @@
 -- `engine::lay` meets its contract. Put or counted (Lays).
 use Rattle.engine.proofs.Lays.{room_put, laid_put, laid_counted}
-use Rattle.puts.proofs.Puts.{put_length}
-use borrow.Author.Rules.{rules}
 use Rattle.engine.proofs.lay.Goals as goal
 
 pub put_bytes-requires : goal.put_bytes-requires

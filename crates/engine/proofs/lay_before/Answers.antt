@@ -1,6 +1,5 @@
 -- `engine::lay_before` meets its contract. By what was held back (Lays).
-use Rattle.engine.proofs.Lays.{laid_length, none_laid, newline_room, newline_laid, slash_room, slash_laid, slashes_room, slashes_laid, slashes3_room, slashes3_laid, star_room, star_laid, stars_room, stars_laid}
-use borrow.Author.Rules.{rules}
+use Rattle.engine.proofs.Lays.{none_laid, newline_room, newline_laid, slash_room, slash_laid, slashes_room, slashes_laid, slashes3_room, slashes3_laid, star_room, star_laid, stars_room, stars_laid}
 use Rattle.engine.proofs.lay_before.Goals as goal
 
 pub lay-requires : goal.lay-requires

@@ -1,6 +1,5 @@
 -- `engine::lay_step` meets its contract. What was held back, then what is shown (Lays).
-use Rattle.engine.proofs.Lays.{held_room, itself_room, itself_laid, line_room, line_laid, shown_none, laid_length_2, laid_length}
-use borrow.Author.Rules.{rules}
+use Rattle.engine.proofs.Lays.{held_room, itself_room, itself_laid, line_room, line_laid, shown_none}
 use Rattle.engine.proofs.lay_step.Goals as goal
 
 pub lay_before-k-requires : goal.lay_before-k-requires

@@ -1,9 +1,4 @@
-use Prim.Native.Nat.{◌-◌}
-use lib.ListN.{length}
-use Rattle.token.specs.Lists.{lent}
-use Rattle.engine.specs.Runs.{state}
-use Rattle.engine.proofs.Loops.{Upto, upto_none, next_fits, at_fits, fewer, on_cr, on_char, on_fed, upto_end, upto_ill, upto_long}
-use borrow.Author.Rules.{rules}
+use Rattle.engine.proofs.Loops.{upto_none, next_fits, at_fits, fewer, on_cr, on_char, on_fed, upto_end, upto_ill}
 use Rattle.engine.proofs.run.Goals as goal
 
 pub loop-c-init : goal.loop-c-init

@@ -3,7 +3,7 @@ use Prim.Native.Nat.{◌-◌}
 use lib.ListN.{length}
 use Rattle.token.specs.Lists.{lent}
 use Rattle.engine.specs.Runs.{state}
-use Rattle.engine.proofs.Loops.{Upto, upto_none, next_fits, at_fits, fewer, on_cr, on_char, on_fed, upto_end, upto_ill, upto_long}
+use Rattle.engine.proofs.Loops.{Upto}
 use Rattle.engine.proofs.run.Given as goal
 
 abbrev pub invariant-loop-c : goal.invariant-loop-c

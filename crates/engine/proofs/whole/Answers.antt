@@ -1,6 +1,5 @@
 -- `engine::whole` meets its contract. The machine's result on the replaced text (Wholes).
 use Rattle.engine.proofs.Wholes.{whole_closes, whole_made}
-use borrow.Author.Rules.{rules}
 use Rattle.engine.proofs.whole.Goals as goal
 
 pub close-requires : goal.close-requires
