@@ -1,4 +1,6 @@
 // The lines of the tokens of a text, put into a lent buffer part by part.
+#![tactic(auto)]
+
 ghost use Rattle.std.specs.Prelude.{◌≤◌, length};
 ghost use Rattle.token.specs.Lists.{lent};
 ghost use Rattle.lexer.specs.Checked.{Checked};

@@ -1,5 +1,5 @@
 -- The call: what one pass finds says what the definition says, and the runs hold the lists of the file.
-use Prim.Native.Nat.{ℕ, suc, ◌+◌, ◌*◌, ◌/◌, ◌≤◌, ◌<◌}
+use Prim.Native.Nat.{ℕ, ◌+◌, ◌*◌, ◌/◌, ◌≤◌}
 use mathlib.Core.Path.{◌≡◌, refl, sym, ap, ◌∙◌}
 use mathlib.Core.Bool.{Bool, true, false}
 use mathlib.Core.List.{List, [], ◌∷◌, ◌++◌, append_assoc, append-nil}
@@ -32,7 +32,7 @@ use Rattle.lists_in.specs.declared.ReadAnswer.{ReadAnswer}
 use Rattle.lists_in.specs.declared.ReadAnswer.TheVariants.{Loaded, Line, Room, Refused}
 use Rattle.lists_in.specs.Tallies.{tallies_of}
 use Rattle.lists_in.specs.Surveys.{found, surveyed}
-use Rattle.lists_in.specs.Fills.{FillRoom, Stand, Put, Filled}
+use Rattle.lists_in.specs.Fills.{FillRoom, Put, Filled}
 use Rattle.lists_in.specs.Answers.{counts, counts_of, held_of, roomed_for, read_of, run_after, lists_in, Reading, judged_of}
 
 -- the verdicts on what is kept of the lists are those on the lists

@@ -1,5 +1,5 @@
 -- What is kept of a list says of it what document 01's rules say, pair by pair.
-use Prim.Native.Nat.{ℕ, zero, suc, ◌+◌, ◌/◌, ◌≤◌, ◌<◌}
+use Prim.Native.Nat.{ℕ, zero, suc, ◌+◌, ◌/◌, ◌≤◌}
 use mathlib.Core.Path.{◌≡◌, refl, sym, ap, ◌∙◌}
 use mathlib.Core.Bool.{Bool, true, false}
 use mathlib.Core.List.{List, [], ◌∷◌, ◌++◌}
@@ -13,7 +13,6 @@ use Rattle.token.specs.Lists.{Lists}
 use Rattle.lists_file.specs.File.{Pairs, no_pair, pair, ListsFit}
 use Rattle.lists_file.specs.Load.{added}
 use Rattle.lists_in.specs.declared.Tally.{Tally}
-use Rattle.lists_in.specs.declared.Tallies.{Tallies}
 use Rattle.lists_in.specs.Tallies.{last_of, tally, tally_of, tallies_of, flaw_on, tally_on, list_on}
 
 -- the last number, with a pair more

@@ -1,24 +1,21 @@
 -- The pass that writes: the numbers of the records before a place stand in the run.
-use Prim.Native.Nat.{ℕ, suc, ◌+◌, ◌-◌, ◌*◌, ◌/◌, ◌≤◌, ◌<◌}
+use Prim.Native.Nat.{ℕ, ◌+◌, ◌*◌, ◌≤◌, ◌<◌}
 use mathlib.Core.Path.{◌≡◌, refl, sym, ap, ◌∙◌}
-use mathlib.Core.List.{List, [], ◌∷◌, ◌++◌, append_assoc, append-nil}
-use lib.ListN.{length, take, drop, get_or, set, length-set, length-append, length-drop, drop_of_length-le}
+use mathlib.Core.List.{List, [], ◌∷◌, ◌++◌, append_assoc}
+use lib.ListN.{length, take, drop, get_or, set, length-set, length-append, drop_of_length-le}
 use lib.Seq.{take-add, take_all, set_at, length-take-le}
-use native.Mathlib.Numerals.{add-one}
 use native.Mathlib.Omega.{arith}
-use Rattle.basics.specs.Tests.{is_in}
-use Rattle.fields.specs.Pieces.{piece, after}
+use Rattle.fields.specs.Pieces.{after}
 use Rattle.fields.proofs.Cuts.{Front, front}
 use Rattle.ranges.proofs.Pairs.{pair_at}
 use Rattle.lists_file.specs.declared.Entry.{Entry}
-use Rattle.lists_file.specs.declared.Line.TheVariants as line
 use Rattle.lists_file.specs.File.{record_text, group_lines, Pairs, no_pair, pair}
-use Rattle.lists_file.specs.Lines.{entry, record_of}
+use Rattle.lists_file.specs.Lines.{entry}
 use Rattle.lists_file.proofs.Texts.{record_back, record_unmarked}
 use Rattle.lists_in.specs.declared.Step.{Step}
 use Rattle.lists_in.specs.declared.Step.TheVariants.{Record, Bad}
-use Rattle.lists_in.specs.Surveys.{step_from, step_of}
-use Rattle.lists_in.specs.Fills.{FillRoom, Stand, Put, Filled}
+use Rattle.lists_in.specs.Surveys.{step_of}
+use Rattle.lists_in.specs.Fills.{FillRoom, Stand, Filled}
 use Rattle.lists_in.proofs.Steps.{Told, step_told}
 use Rattle.lists_in.proofs.Surveying.{Onward, onward}
 

@@ -3,11 +3,9 @@ use Prim.Native.Nat.{ℕ, zero, suc, ◌+◌, ◌/◌, ◌≤◌, ◌<◌}
 use mathlib.Core.Path.{◌≡◌, refl, sym, ap, ◌∙◌}
 use mathlib.Core.Bool.{Bool, true, false}
 use borrow.Author.Tests.{lt-ltb, le-ltb}
-use lib.Dec.{ltb}
 use native.Mathlib.Omega.{arith}
 use Rattle.refusal.specs.Order.{lists_in_order}
 use Rattle.refusal.specs.declared.Bad.{Bad}
-use Rattle.basics.specs.Choice.{pick}
 use Rattle.refusal.specs.declared.Bad.TheVariants as bad
 use Rattle.refusal.specs.declared.Verdict.{Verdict}
 use Rattle.refusal.specs.declared.Verdict.TheVariants.{Fine, Refused}

@@ -2,18 +2,17 @@
 use Prim.Native.Nat.{ℕ, suc, ◌+◌, ◌-◌, ◌≤◌, ◌<◌}
 use mathlib.Core.Path.{◌≡◌, refl, sym, ap, ◌∙◌}
 use mathlib.Core.Bool.{Bool, true, false}
-use mathlib.Core.List.{List, [], ◌∷◌, ◌++◌}
+use mathlib.Core.List.{List, [], ◌∷◌}
 use borrow.Author.Tests.{lt-ltb, le-ltb}
 use lib.Dec.{ltb}
-use lib.ListN.{length, take, drop, get_or, length-drop, drop_of_length-le}
-use lib.Seq.{drop-drop, drop-cons}
+use lib.ListN.{length, take, drop}
 use native.Mathlib.Omega.{arith}
 use mathlib.Core.Logic.{⊎_elim}
 use Rattle.basics.specs.Choice.{pick}
 use Rattle.basics.specs.Tests.{is_in}
 use Rattle.basics.proofs.Choices.{below_or_not}
-use Rattle.fields.specs.Pieces.{piece, after, parted, Parted, parts}
-use Rattle.fields.proofs.Cuts.{Split, split_at, split_none, Cut, cut_at, Uncut, no_cut, piece_within}
+use Rattle.fields.specs.Pieces.{piece, after, parted, Parted}
+use Rattle.fields.proofs.Cuts.{Split, split_at, split_none, Cut, cut_at, Uncut, no_cut}
 use Rattle.token.specs.Lists.{Lists}
 use Rattle.lists_file.specs.declared.Version.{Version}
 use Rattle.lists_file.specs.declared.Entry.{Entry}
@@ -21,7 +20,6 @@ use Rattle.lists_file.specs.declared.Line.{Line}
 use Rattle.lists_file.specs.declared.Line.TheVariants as line
 use Rattle.lists_file.specs.Lines.{record_of}
 use Rattle.lists_file.specs.Load.{Read, loaded, bad_line, added, load_from, load_at}
-use Rattle.lists_in.specs.declared.Step.{Step}
 use Rattle.lists_in.specs.declared.Step.TheVariants.{Record, Bad}
 use Rattle.lists_in.specs.Surveys.{step_from, step_of}
 

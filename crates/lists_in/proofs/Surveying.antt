@@ -1,7 +1,7 @@
 -- The pass over the lines: what is kept of the lines before a place is what the reader has read there.
 use Prim.Native.Nat.{ℕ, suc, ◌+◌, ◌-◌, ◌≤◌, ◌<◌}
 use mathlib.Core.Path.{◌≡◌, refl, sym, ap, ◌∙◌}
-use mathlib.Core.List.{List, [], ◌∷◌, ◌++◌}
+use mathlib.Core.List.{List, [], ◌∷◌}
 use lib.ListN.{length, take, drop, length-drop, length-append}
 use lib.Seq.{drop-drop}
 use native.Mathlib.Numerals.{add-one}
@@ -23,7 +23,7 @@ use Rattle.lists_in.specs.declared.Step.TheVariants.{Record, Bad}
 use Rattle.lists_in.specs.declared.Tallies.{Tallies}
 use Rattle.lists_in.specs.declared.Survey.{Survey}
 use Rattle.lists_in.specs.declared.Survey.TheVariants as survey
-use Rattle.lists_in.specs.Tallies.{tallies_of, tallies_on, list_on, RoomForPair}
+use Rattle.lists_in.specs.Tallies.{tallies_of, tallies_on, RoomForPair}
 use Rattle.lists_in.specs.Surveys.{step_of, found, surveyed, Starting}
 use Rattle.lists_in.proofs.Counting.{tallies_more, lists_more, numbers_in, numbers_more}
 use Rattle.lists_in.proofs.Steps.{Told, step_told, load_none, load_bad, load_back, load_on}

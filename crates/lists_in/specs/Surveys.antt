@@ -3,7 +3,6 @@ use Rattle.std.specs.Prelude.{ℕ, ◌+◌, ◌≤◌, List, length}
 use Rattle.basics.specs.Choice.{pick}
 use Rattle.basics.specs.Tests.{is_in}
 use Rattle.fields.specs.Pieces.{piece}
-use Rattle.token.specs.Lists.{Lists}
 use Rattle.lists_file.specs.declared.Version.{Version}
 use Rattle.lists_file.specs.declared.Line.{Line}
 use Rattle.lists_file.specs.declared.Line.TheVariants as line

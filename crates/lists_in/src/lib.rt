@@ -1,5 +1,7 @@
 // The reader of the file of a Unicode version's lists (document 02, W1). It goes through the file twice: once over every line, to find every refusal
 // and to count, and once to write the numbers. Each line is read from its beginning to its end a fixed number of times.
+#![tactic(auto)]
+
 ghost use Rattle.std.specs.Prelude.{◌+◌, ◌*◌, ◌≤◌, ◌≡◌, length, drop};
 ghost use Rattle.token.specs.Lists.{none};
 ghost use Rattle.fields.specs.Pieces.{piece};

@@ -1,4 +1,6 @@
 // The key of a text that is handed in in pieces (document 02, W13).
+#![tactic(auto)]
+
 use engine::Need;
 use key::KeyAnswer;
 use key_state::KeyState;
