@@ -2,6 +2,8 @@
 //
 // Every answer begins with three numbers: the refusal's number in document 01's table (0: done), and the two numbers beside it. A slice goes in as a
 // pointer and a count.
+#![tactic(auto)]
+
 ghost use Rattle.std.specs.Prelude.{◌≡◌};
 ghost use Rattle.classes.specs.Whitespace.{is_whitespace, is_horizontal_whitespace};
 ghost use Rattle.classes.specs.Answers.{answer_numbers, id_start_answer, id_continue_answer, emoji_answer, ident_answer};

@@ -3,7 +3,7 @@ use Prim.Native.Nat.{ℕ, ◌≤◌}
 use mathlib.Core.Path.{◌≡◌, refl, sym, ap, ◌∙◌}
 use mathlib.Core.Bool.{Bool, true, false}
 use mathlib.Core.List.{List, ◌++◌}
-use borrow.Author.Tests.{leb-true, le-leb}
+use borrow.Author.Tests.{le-leb}
 use lib.Dec.{leb}
 use lib.ListN.{length, take, drop}
 use lib.Seq.{take_at}
@@ -15,7 +15,7 @@ use Rattle.refusal.specs.Order.{refused_or}
 use Rattle.token.specs.Lists.{Lists, lent}
 use Rattle.lists_file.specs.declared.Version.{Version}
 use Rattle.lists_file.specs.File.{file_of, VersionFits}
-use Rattle.lists_file.specs.Load.{Read, loaded, bad_line, load}
+use Rattle.lists_file.specs.Load.{loaded, load}
 use Rattle.lists_file.specs.Verdicts.{lists_verdict}
 use Rattle.lists_file.proofs.RoundTrip.{reads_back, holds}
 use Rattle.lists_in.specs.declared.Held.{Held}
@@ -26,7 +26,7 @@ use Rattle.lists_in.proofs.Judgements as judged
 use Rattle.lists_in.proofs.Calls.{Done, read_done_told}
 use Rattle.lists_out.specs.declared.WriteAnswer.{WriteAnswer}
 use Rattle.lists_out.specs.declared.WriteAnswer.TheVariants.{Written, Room, Refused}
-use Rattle.lists_out.specs.Answers.{roomed, write_answer, buffer_after, Writing}
+use Rattle.lists_out.specs.Answers.{roomed, buffer_after, Writing}
 use Rattle.lists_out.proofs.Fits.{fine_fits}
 
 -- WHAT IS WRITTEN: the lists keep the rules, and the file is in the first bytes

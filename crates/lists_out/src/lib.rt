@@ -1,5 +1,7 @@
 // The writer of a file of lists (document 02, W1), in a lent buffer. Every refusal is found, and the file is measured, before the first byte is written;
 // both passes go over each list once.
+#![tactic(auto)]
+
 ghost use Rattle.std.specs.Prelude.{◌+◌, ◌≤◌, ◌≡◌, ◌∷◌, length};
 ghost use Rattle.token.specs.Lists.{lent};
 ghost use Rattle.puts.specs.Put.{Put};

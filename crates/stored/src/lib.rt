@@ -3,6 +3,8 @@
 // Each function reads what is handed in, makes the call and puts its answer into out. It answers how many bytes that took: 0 where what is handed in
 // is too short or out has no room, which no stored answer agrees with. Promised is that it stays within out; that the bytes are the right ones is
 // judged by the stored answers, and by damaged ones, which must be seen to differ (tools/damaged-vectors).
+#![tactic(auto)]
+
 mod checks;
 mod files;
 mod keys;
