@@ -1,11 +1,17 @@
-// The lists of the file that a program's first argument names, in three lent runs; or why there are none, as a line on standard output
-// (`reports::say_lists`): the numbers of refusal 9 or 3; 1 where the file has more than 524,288 bytes, which no file has whose lists keep the rules; 0 where it
-// cannot be read whole. No contract can say what a file holds: what is promised is that what was loaded lies within the runs.
-ghost use Rattle.std.specs.Prelude.{◌≡◌, false, length};
+// The lists of the file that a program's first argument names, in three lent runs; or why there are none, as a line (`reports::say_lists`): the numbers of
+// refusal 9 or 3; 1 where the file has more than 524,288 bytes, which no file has whose lists keep the rules; 0 where it cannot be read whole. No contract can
+// say what a file holds: what is promised is that what was loaded lies within the runs.
+#![tactic(auto)]
+
+ghost use Rattle.std.specs.Prelude.{◌≡◌, false, length, IfOk, OnErr};
 ghost use Rattle.loading.specs.Inside.{loading, Inside, Loaded};
 
 use lists_in::ReadAnswer;
-use refusal::Bad;
+use refusal::{Bad, Numbers};
+use std::env::Env;
+use std::io::Write;
+use std::rt::Files;
+use std::{fs, io};
 
 // Whether lists were loaded, and how many numbers each run then holds: none where there are none.
 #[derive(Drop)]
@@ -41,48 +47,75 @@ fn file_room() -> [u8; 524289]
     [0; 524289]
 }
 
+// Zeros for a path: more than the longest that can be opened has.
+fn path_room() -> [u8; 4096]
+    ensures { 4096 ≡ length result }
+{
+    [0; 4096]
+}
+
+// No lists, and the line that says why.
+fn refused<W: Write>(to: &mut W, why: Numbers) -> io::Result<Loading>
+    ensures { IfOk result (λ r. r ≡ loading false 0 0 0) }
+{
+    reports::say_lists(to, why)?;
+    Ok(nothing())
+}
+
 // The lists in the bytes of a file.
-fn load_bytes(file: &[u8], starts: &mut [u32], continues: &mut [u32], emoji: &mut [u32]) -> Loading
-    ensures { Loaded file.now starts.new continues.new emoji.new result }
+fn load_bytes<W: Write>(
+    to: &mut W,
+    file: &[u8],
+    starts: &mut [u32],
+    continues: &mut [u32],
+    emoji: &mut [u32],
+) -> io::Result<Loading>
+    ensures { IfOk result (λ r. Loaded file.now starts.new continues.new emoji.new r) }
 {
     let answer = lists_in::read_lists(file, starts, continues, emoji);
     match answer {
-        ReadAnswer::Loaded(held) => Loading {
+        ReadAnswer::Loaded(held) => Ok(Loading {
             done: true,
             starts: held.starts,
             continues: held.continues,
             emoji: held.emoji,
-        },
-        _ => {
-            reports::say_lists(lists_in::read_numbers(answer));
-            nothing()
-        }
+        }),
+        why => refused(to, lists_in::read_numbers(why)),
     }
 }
 
-// The lists of the file that the first argument names. A read that fails ends as the end of the file does: one more read tells the two apart.
-pub fn load(starts: &mut [u32], continues: &mut [u32], emoji: &mut [u32]) -> Loading
-    ensures { Inside starts.new continues.new emoji.new result }
+// The file that the first argument names. There is none where no argument is, or one that is no path of a file that can be opened.
+fn named<R: Env + Files>(rt: &R) -> Option<R::File> {
+    let mut path = path_room();
+    let Ok(n) = rt.arg(1, &mut path) else {
+        return None;
+    };
+    let Ok(name) = str::from_utf8(&path[..n]) else {
+        return None;
+    };
+    fs::open(rt, name).ok()
+}
+
+// The lists of the file that the first argument names. A file that cannot be opened or read is told as one that is refused, and is no error: an error is that the
+// line could not be written.
+pub fn load<R: Env + Files, W: Write>(
+    rt: &R,
+    to: &mut W,
+    starts: &mut [u32],
+    continues: &mut [u32],
+    emoji: &mut [u32],
+) -> io::Result<Loading>
+    ensures { IfOk result (λ r. Inside starts.new continues.new emoji.new r) }
 {
-    let mut path = io::buffer();
-    let n = os::arg(1, &mut path);
-    let fd = os::open_read(&path[..n]);
-    if fd < 0 {
-        reports::say_lists(refusal::done(0, 0));
-        return nothing();
-    }
+    let Some(mut opened) = named(rt) else {
+        return refused(to, refusal::done(0, 0));
+    };
     let mut file = file_room();
-    let bytes = io::read_full(fd, &mut file);
-    let mut more = [0u8; 1];
-    let left = libc::read(fd, &mut more);
-    libc::close(fd);
+    let Ok(bytes) = input::read_full(&mut opened, &mut file) else {
+        return refused(to, refusal::done(0, 0));
+    };
     if 524288 < bytes {
-        reports::say_lists(refusal::bad_numbers(Bad::TooLong));
-        return nothing();
+        return refused(to, refusal::bad_numbers(Bad::TooLong));
     }
-    if left != 0 {
-        reports::say_lists(refusal::done(0, 0));
-        return nothing();
-    }
-    load_bytes(&file[..bytes], starts, continues, emoji)
+    load_bytes(to, &file[..bytes], starts, continues, emoji)
 }

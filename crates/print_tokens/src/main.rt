@@ -1,11 +1,13 @@
 // The tokens of standard input, with empty lists and frontmatter off: a line a token, its kind and its length in bytes separated by a tab.
 // More than 65,536 bytes are refused as too long: `refused`, a tab, 1, a tab, 0. Input that is not UTF-8 is refused likewise, as 2 and
 // with the place of the first ill-formed sequence. A refused input gives no other line.
-use libc::STDIN_FILENO;
+#![tactic(auto)]
 
-fn main() {
+use std::io;
+
+fn main(rt: HostRuntime) -> io::Result<()> {
     let empty = [0u32; 0];
     let mut buf = printing::input_room();
-    let n = io::read_full(STDIN_FILENO, &mut buf);
-    printing::say_tokens(&buf[..n], &empty, &empty, &empty, false);
+    let n = input::read_full(&mut rt.stdin(), &mut buf)?;
+    printing::say_tokens(&mut rt.stdout(), &buf[..n], &empty, &empty, &empty, false)
 }

@@ -1,10 +1,13 @@
 // Is standard input UTF-8? Writes `well-formed`, a tab and the number of bytes; or, where it is not, `refused`, a tab, 2, a tab, the
 // place of the first ill-formed sequence, a tab and its cause: 1, its first byte cannot start one; 2, the input ends inside it; 3, a following byte is wrong.
 // More than 262,144 bytes are refused as too long: `refused`, a tab, 1, a tab, 0.
+#![tactic(auto)]
+
 ghost use Rattle.std.specs.Prelude.{◌≡◌, length};
 
-use libc::{STDIN_FILENO, STDOUT_FILENO};
 use refusal::{Bad, Verdict};
+use std::io;
+use std::io::Write;
 
 // Zeros for the input and one byte more, which shows that input is longer. Only the length is promised, so that no proof unfolds the zeros.
 fn room() -> [u8; 262145]
@@ -13,23 +16,19 @@ fn room() -> [u8; 262145]
     [0; 262145]
 }
 
-fn say(verdict: Verdict, bytes: usize) {
+fn say<W: Write>(to: &mut W, verdict: Verdict, bytes: usize) -> io::Result<()> {
     match verdict {
-        Verdict::Refused(bad) => reports::say_why(bad),
-        Verdict::Fine => {
-            io::write_all(STDOUT_FILENO, b"well-formed\t");
-            io::print_decimal(STDOUT_FILENO, bytes as u64);
-            io::write_all(STDOUT_FILENO, b"\n");
-        }
+        Verdict::Refused(bad) => reports::say_why(to, bad),
+        Verdict::Fine => writeln!(to, "well-formed\t{bytes}"),
     }
 }
 
-fn main() {
+fn main(rt: HostRuntime) -> io::Result<()> {
     let mut buf = room();
-    let n = io::read_full(STDIN_FILENO, &mut buf);
+    let n = input::read_full(&mut rt.stdin(), &mut buf)?;
+    let mut to = rt.stdout();
     if 262144 < n {
-        reports::say_bad(Bad::TooLong);
-        return;
+        return reports::say_bad(&mut to, Bad::TooLong);
     }
-    say(text::check_text(&buf[..n]), n);
+    say(&mut to, text::check_text(&buf[..n]), n)
 }
