@@ -1,14 +1,19 @@
 // Replays stored answers of the Rust, and of document 01 where the Rust has no word for it, in the files that the arguments name.
 // For each file it writes how many vectors agree and how many do not, the place of each that does not, and the sums at the end.
 // tools/oracle/README.md describes the files and how they are made.
-ghost use Rattle.std.specs.Prelude.{◌≡◌, ◌+◌, ◌<◌, ◌≤◌, length};
+#![tactic(auto)]
+
+ghost use Rattle.std.specs.Prelude.{◌≡◌, ◌+◌, ◌<◌, ◌≤◌, length, IfOk};
 ghost use Rattle.replay.specs.Counted.{Tallied, Within, Stopped, One, Steps};
 
-use libc::STDOUT_FILENO;
+use std::env::{Env, FillError};
+use std::io::Write;
+use std::rt::Files;
+use std::{fs, io};
 use vectors::Part;
 
 // How far a file was read, what agreed and what did not, and whether the file is out of form.
-#[derive(Drop)]
+#[derive(Clone, Copy)]
 struct Tally {
     pub at: usize,
     pub same: usize,
@@ -16,10 +21,8 @@ struct Tally {
     pub stopped: bool,
 }
 
-fn say_bad(at: usize) {
-    io::write_all(STDOUT_FILENO, b"differs at ");
-    io::print_decimal(STDOUT_FILENO, at as u64);
-    io::write_all(STDOUT_FILENO, b"\n");
+fn say_bad<W: Write>(to: &mut W, at: usize) -> io::Result<()> {
+    writeln!(to, "differs at {at}")
 }
 
 // The file is out of form: nothing more of it is read.
@@ -52,7 +55,7 @@ fn agrees(
     let c = answer.from;
     let d = answer.to;
     let k = stored::answer(operation, &s[a..b], starts, continues, emoji, out);
-    check::same(&out[..k], &s[c..d])
+    out[..k] == s[c..d]
 }
 
 // One vector more, up to a place: it agrees, or it differs.
@@ -77,33 +80,36 @@ fn counted(t: Tally, to: usize, agrees: bool) -> Tally
 }
 
 // The vector at the tally's place.
-fn step(
+fn step<W: Write>(
+    to: &mut W,
     s: &[u8],
     t: Tally,
     starts: &[u32],
     continues: &[u32],
     emoji: &[u32],
     out: &mut [u8],
-) -> Tally
+) -> io::Result<Tally>
     requires { Tallied (length s.now) t }
-    ensures { Steps (length s.now) 1 t result }
+    ensures { IfOk result (λ r. Steps (length s.now) 1 t r) }
 {
     let at = t.at;
     let v = vectors::vector_at(s, at);
     let input = v.input;
     let answer = v.answer;
-    if answer.to <= at {
-        return stop(t);
+    let end = answer.to;
+    if end <= at {
+        return Ok(stop(t));
     }
     let same = agrees(s, v.operation, input, answer, starts, continues, emoji, out);
     if !same {
-        say_bad(at);
+        say_bad(to, at)?;
     }
-    counted(t, answer.to, same)
+    Ok(counted(t, end, same))
 }
 
 // As many vectors as `count` says.
-fn steps(
+fn steps<W: Write>(
+    to: &mut W,
     s: &[u8],
     from: Tally,
     count: u32,
@@ -111,20 +117,20 @@ fn steps(
     continues: &[u32],
     emoji: &[u32],
     out: &mut [u8],
-) -> Tally
+) -> io::Result<Tally>
     requires { Tallied (length s.now) from }
-    ensures { Steps (length s.now) count from result }
+    ensures { IfOk result (λ r. Steps (length s.now) count from r) }
 {
     let mut t = from;
     let mut left = count;
     while 0 < left {
-        t = step(s, t, starts, continues, emoji, out);
+        t = step(to, s, t, starts, continues, emoji, out)?;
         if t.stopped {
-            return t;
+            return Ok(t);
         }
         left -= 1;
     }
-    t
+    Ok(t)
 }
 
 // Zeros for a list: as many as a whole file has numbers, so that no list in a file has more. Only the length is promised, so that no proof unfolds
@@ -136,7 +142,8 @@ fn list_room() -> [u32; 65536]
 }
 
 // The vectors of a section, with the lists that stand in three parts of the file.
-fn with_lists(
+fn with_lists<W: Write>(
+    to: &mut W,
     s: &[u8],
     first: Tally,
     count: u32,
@@ -144,9 +151,9 @@ fn with_lists(
     continues_at: Part,
     emoji_at: Part,
     out: &mut [u8],
-) -> Tally
+) -> io::Result<Tally>
     requires { Tallied (length s.now) first }
-    ensures { Steps (length s.now) count first result }
+    ensures { IfOk result (λ r. Steps (length s.now) count first r) }
 {
     let mut starts = list_room();
     let i = vectors::load(s, starts_at, &mut starts);
@@ -155,6 +162,7 @@ fn with_lists(
     let mut emoji = list_room();
     let k = vectors::load(s, emoji_at, &mut emoji);
     steps(
+        to,
         s,
         first,
         count,
@@ -166,25 +174,25 @@ fn with_lists(
 }
 
 // One section: three lists, a count, and as many vectors.
-fn section(s: &[u8], t: Tally, out: &mut [u8]) -> Tally
+fn section<W: Write>(to: &mut W, s: &[u8], t: Tally, out: &mut [u8]) -> io::Result<Tally>
     requires { Tallied (length s.now) t }
-    ensures { Tallied (length s.now) result }
+    ensures { IfOk result (λ r. Tallied (length s.now) r) }
 {
     let starts = vectors::numbers_at(s, t.at);
     if starts.to <= t.at {
-        return stop(t);
+        return Ok(stop(t));
     }
     let continues = vectors::numbers_at(s, starts.to);
     if continues.to <= starts.to {
-        return stop(t);
+        return Ok(stop(t));
     }
     let emoji = vectors::numbers_at(s, continues.to);
     if emoji.to <= continues.to {
-        return stop(t);
+        return Ok(stop(t));
     }
     let at = emoji.to;
     if s.len() - at < 4 {
-        return stop(t);
+        return Ok(stop(t));
     }
     let first = Tally {
         at: at + 4,
@@ -193,12 +201,12 @@ fn section(s: &[u8], t: Tally, out: &mut [u8]) -> Tally
         stopped: t.stopped,
     };
     let count = vectors::number(s, at);
-    with_lists(s, first, count, starts, continues, emoji, out)
+    with_lists(to, s, first, count, starts, continues, emoji, out)
 }
 
 // Every section of a file.
-fn sections(s: &[u8], out: &mut [u8]) -> Tally
-    ensures { Tallied (length s.now) result }
+fn sections<W: Write>(to: &mut W, s: &[u8], out: &mut [u8]) -> io::Result<Tally>
+    ensures { IfOk result (λ r. Tallied (length s.now) r) }
 {
     let mut t = Tally {
         at: 0,
@@ -209,28 +217,27 @@ fn sections(s: &[u8], out: &mut [u8]) -> Tally
     loop {
         let at = t.at;
         if s.len() <= at {
-            return t;
+            return Ok(t);
         }
         if t.stopped {
-            return t;
+            return Ok(t);
         }
-        let next = section(s, t, out);
+        let next = section(to, s, t, out)?;
         if next.at <= at {
-            return stop(t);
+            return Ok(stop(t));
         }
         t = next;
     }
 }
 
-fn say(t: Tally) {
-    io::write_all(STDOUT_FILENO, b": ");
-    io::print_decimal(STDOUT_FILENO, t.same as u64);
-    io::write_all(STDOUT_FILENO, b" agree, ");
-    io::print_decimal(STDOUT_FILENO, t.other as u64);
-    io::write_all(STDOUT_FILENO, b" differ\n");
+fn say<W: Write>(to: &mut W, t: Tally) -> io::Result<()> {
+    let same = t.same;
+    let other = t.other;
+    writeln!(to, ": {same} agree, {other} differ")?;
     if t.stopped {
-        io::write_all(STDOUT_FILENO, b"the file is out of form\n");
+        writeln!(to, "the file is out of form")?;
     }
+    Ok(())
 }
 
 // Zeros for a file and one byte more.
@@ -258,51 +265,78 @@ fn nothing() -> Tally
     }
 }
 
-// The vectors of one file.
-fn file(path: &[u8]) -> Tally {
-    let fd = os::open_read(path);
-    if fd < 0 {
-        os::fail(path);
-        return nothing();
+// Zeros for a path: more than the longest that can be opened has.
+fn path_room() -> [u8; 4096]
+    ensures { 4096 ≡ length result }
+{
+    [0; 4096]
+}
+
+// The file at a path. Where it cannot be opened there is none, and standard error says why.
+fn opened<R: Files + Eprint>(rt: &R, path: &[u8]) -> io::Result<Option<R::File>> {
+    let Ok(name) = str::from_utf8(path) else {
+        eprintln!(rt; "a path that is not UTF-8 cannot be opened")?;
+        return Ok(None);
+    };
+    match fs::open(rt, name) {
+        Ok(file) => Ok(Some(file)),
+        Err(why) => {
+            eprintln!(rt; "{name}: {why}")?;
+            Ok(None)
+        }
     }
+}
+
+// The vectors of one file.
+fn file<R: Files + Eprint, W: Write>(rt: &R, to: &mut W, path: &[u8]) -> io::Result<Tally> {
+    let Some(mut opened) = opened(rt, path)? else {
+        return Ok(nothing());
+    };
     let mut s = file_room();
-    let n = io::read_full(fd, &mut s);
-    libc::close(fd);
+    let n = input::read_full(&mut opened, &mut s)?;
     if 262144 < n {
-        return nothing();
+        return Ok(nothing());
     }
     let mut out = answer_room();
-    sections(&s[..n], &mut out)
+    sections(to, &s[..n], &mut out)
 }
 
-// The file that argument i names.
-fn argument(i: usize) -> Tally {
-    let mut path = io::buffer();
-    let n = os::arg(i, &mut path);
-    io::write_all(STDOUT_FILENO, &path[..n]);
-    let t = file(&path[..n]);
-    say(t);
-    t
+// The file that argument i names, or nothing past the last argument. An argument that is too long for a path is read as an empty one, which no file has.
+fn argument<R: Env + Files + Eprint, W: Write>(
+    rt: &R,
+    to: &mut W,
+    i: usize,
+) -> io::Result<Option<Tally>> {
+    let mut path = path_room();
+    let n = match rt.arg(i, &mut path) {
+        Ok(n) => n,
+        Err(FillError::NotPresent) => return Ok(None),
+        Err(FillError::TooLong) => 0,
+    };
+    to.write_all(&path[..n])?;
+    let t = file(rt, to, &path[..n])?;
+    say(to, t)?;
+    Ok(Some(t))
 }
 
-fn say_sum(t: Tally) {
-    io::write_all(STDOUT_FILENO, b"in all");
-    say(t);
+fn say_sum<W: Write>(to: &mut W, t: Tally) -> io::Result<()> {
+    write!(to, "in all")?;
+    say(to, t)
 }
 
-fn main() {
-    let count = os::arg_count();
+fn main(rt: HostRuntime) -> io::Result<()> {
+    let mut to = rt.stdout();
     let mut sum = nothing();
-    let mut i = 1;
-    while i < count {
-        let t = argument(i);
+    for i in 1..usize::MAX {
+        let Some(t) = argument(&rt, &mut to, i)? else {
+            break;
+        };
         sum = Tally {
             at: 0,
-            same: std::num::wrapping_add_usize(sum.same, t.same),
-            other: std::num::wrapping_add_usize(sum.other, t.other),
+            same: sum.same.wrapping_add(t.same),
+            other: sum.other.wrapping_add(t.other),
             stopped: false,
         };
-        i += 1;
     }
-    say_sum(sum);
+    say_sum(&mut to, sum)
 }
