@@ -1,30 +1,43 @@
 // What the programs write where they refuse: one line. No contract can say what reaches a program's standard output: the gate compares it.
 #![tactic(auto)]
 
+ghost use Rattle.std.specs.Prelude.{OnOk};
+ghost use Rattle.std.specs.Io.KnownBytes.{Appends};
+ghost use Rattle.refusal.specs.Numbers.{bad_numbers};
+ghost use Rattle.reports.specs.Lines.{refused_numbers, refused_line, why_line, lists_line};
+
 use refusal::{Bad, Numbers};
 use std::io;
 use std::io::Write;
 
 // Writes `refused`, the number of the refusal and the number beside it, separated by tabs.
-fn say_numbers<W: Write>(to: &mut W, n: Numbers) -> io::Result<()> {
+fn say_numbers<W: Write>(to: &mut W, n: Numbers) -> io::Result<()>
+    ensures { OnOk result (Appends (W.contents to.old) (W.contents to.new) (refused_numbers n)) }
+{
     let number = n.number;
     let beside = n.beside;
     write!(to, "refused\t{number}\t{beside}")
 }
 
 // The same, as a line.
-pub fn say_refused<W: Write>(to: &mut W, n: Numbers) -> io::Result<()> {
+pub fn say_refused<W: Write>(to: &mut W, n: Numbers) -> io::Result<()>
+    ensures { OnOk result (Appends (W.contents to.old) (W.contents to.new) (refused_line n)) }
+{
     say_numbers(to, n)?;
     to.write_all(b"\n")
 }
 
 // The same for a refusal that calls share.
-pub fn say_bad<W: Write>(to: &mut W, bad: Bad) -> io::Result<()> {
+pub fn say_bad<W: Write>(to: &mut W, bad: Bad) -> io::Result<()>
+    ensures { OnOk result (Appends (W.contents to.old) (W.contents to.new) (refused_line (bad_numbers bad))) }
+{
     say_refused(to, refusal::bad_numbers(bad))
 }
 
 // The same, and after it, where the text is not UTF-8, a tab and the cause.
-pub fn say_why<W: Write>(to: &mut W, bad: Bad) -> io::Result<()> {
+pub fn say_why<W: Write>(to: &mut W, bad: Bad) -> io::Result<()>
+    ensures { OnOk result (Appends (W.contents to.old) (W.contents to.new) (why_line bad)) }
+{
     let is_ill_formed = matches!(&bad, Bad::NotUtf8(..));
     let n = refusal::bad_numbers(bad);
     let cause = n.second;
@@ -37,7 +50,9 @@ pub fn say_why<W: Write>(to: &mut W, bad: Bad) -> io::Result<()> {
 
 // What a program writes where the file of lists that it reads is refused: `lists`, the number of the refusal and the two numbers beside it, separated by
 // tabs, as a line. No key and no line of a token begins so.
-pub fn say_lists<W: Write>(to: &mut W, n: Numbers) -> io::Result<()> {
+pub fn say_lists<W: Write>(to: &mut W, n: Numbers) -> io::Result<()>
+    ensures { OnOk result (Appends (W.contents to.old) (W.contents to.new) (lists_line n)) }
+{
     let number = n.number;
     let beside = n.beside;
     let second = n.second;
