@@ -2,11 +2,17 @@
 // refused as too long. No contract can say what reaches a program's standard output: the gate compares it.
 #![tactic(auto)]
 
-ghost use Rattle.std.specs.Prelude.{◌+◌, ◌≤◌, ◌≡◌, length, IfOk};
+ghost use Rattle.std.specs.Prelude.{◌+◌, ◌≤◌, ◌≡◌, length, take, false, IfOk, OnOk};
 ghost use Rattle.token.specs.Lists.{lent};
+ghost use Rattle.std.specs.Io.KnownBytes.{Appends};
 ghost use Rattle.lexer.specs.Checked.{Checked};
+ghost use Rattle.lexer.specs.Steps.{start_of};
+ghost use Rattle.lines.specs.Lines.{lines_from};
+ghost use Rattle.printing.specs.Said.{lined_past, token_lines, tokens_said, key_said};
+ghost use Rattle.printing.specs.Written.{Written};
 
 use key::KeyAnswer;
+use ranges::MAX_PAIRS;
 use refusal::{Bad, Verdict};
 use std::io;
 use std::io::Write;
@@ -41,6 +47,7 @@ fn say_lines<W: Write>(
     emoji: &[u32],
 ) -> io::Result<()>
     requires { Checked text.now (lent starts.now continues.now emoji.now) }
+    ensures { OnOk result (Appends (W.contents to.old) (W.contents to.new) (lines_from (lent starts.now continues.now emoji.now) text.now 0)) }
 {
     let mut out = output_room();
     let mut at = 0;
@@ -58,7 +65,8 @@ fn say_lines<W: Write>(
 // Writes what is in the room, and begins it anew, where one more line might not fit. What is answered is how much is then in it.
 fn emptied<W: Write>(to: &mut W, out: &[u8], used: usize) -> io::Result<usize>
     requires { (used ≤ length out.now) × (44 ≤ length out.now) }
-    ensures { IfOk result (λ n. n + 44 ≤ length out.now) }
+    ensures room { IfOk result (λ n. n + 44 ≤ length out.now) }
+    ensures bytes { IfOk result (λ n. Written (W.contents to.old) (W.contents to.new) (take n out.now) (take used out.now)) }
 {
     if out.len() - used < 44 {
         to.write_all(&out[..used])?;
@@ -76,6 +84,7 @@ fn say_lined<W: Write>(
     emoji: &[u32],
 ) -> io::Result<()>
     requires { Checked text.now (lent starts.now continues.now emoji.now) }
+    ensures { OnOk result (Appends (W.contents to.old) (W.contents to.new) (lined_past (lent starts.now continues.now emoji.now) text.now (start_of false))) }
 {
     let mut out = output_room();
     let mut used: usize = 0;
@@ -100,6 +109,7 @@ fn say_checked<W: Write>(
     lined: bool,
 ) -> io::Result<()>
     requires { Checked text.now (lent starts.now continues.now emoji.now) }
+    ensures { OnOk result (Appends (W.contents to.old) (W.contents to.new) (token_lines (lent starts.now continues.now emoji.now) text.now lined)) }
 {
     if lined {
         return say_lined(to, text, starts, continues, emoji);
@@ -116,7 +126,9 @@ pub fn say_tokens<W: Write>(
     continues: &[u32],
     emoji: &[u32],
     lined: bool,
-) -> io::Result<()> {
+) -> io::Result<()>
+    ensures { OnOk result (Appends (W.contents to.old) (W.contents to.new) (tokens_said MAX_PAIRS text.now (lent starts.now continues.now emoji.now) lined)) }
+{
     if 65536 < text.len() {
         return reports::say_bad(to, Bad::TooLong);
     }
@@ -134,7 +146,9 @@ pub fn say_key<W: Write>(
     starts: &[u32],
     continues: &[u32],
     emoji: &[u32],
-) -> io::Result<()> {
+) -> io::Result<()>
+    ensures { OnOk result (Appends (W.contents to.old) (W.contents to.new) (key_said MAX_PAIRS text.now (lent starts.now continues.now emoji.now))) }
+{
     if 65536 < text.len() {
         return reports::say_bad(to, Bad::TooLong);
     }
