@@ -1,13 +1,20 @@
 -- What was loaded lies within the runs.
-use Rattle.std.specs.Prelude.{ℕ, ◌≡◌, Bool, true, List, take}
-use Rattle.io.specs.Counts.{IsPrefixLen}
+use Rattle.std.specs.Prelude.{ℕ, ◌≡◌, ◌≤◌, Bool, true, List, [], length, take}
 use Rattle.token.specs.Lists.{Lists}
 use Rattle.lists_file.specs.declared.Version.{Version}
 use Rattle.lists_file.specs.Load.{loaded, load}
+use Rattle.lists_in.specs.declared.ReadAnswer.{ReadAnswer}
+use Rattle.lists_in.specs.declared.ReadAnswer.TheVariants as read
+use Rattle.lists_in.specs.Answers.{read_numbers}
+use Rattle.reports.specs.Lines.{lists_line}
 use Rattle.loading.specs.declared.Loading.{Loading}
 
 abbrev pub loading : Bool → (starts continues emoji : ℕ) → Loading
 loading done a b c = record { done = done; starts = a; continues = b; emoji = c }
+
+-- the first n numbers of a run lie within it, and are n
+abbrev pub IsPrefixLen : ℕ → List ℕ → Type 0
+IsPrefixLen n xs = (n ≤ length xs) × (n ≡ length (take n xs))
 
 pub record Inside (starts continues emoji : List ℕ) (r : Loading) : Type 0 where
   pub in_starts : IsPrefixLen r.starts starts
@@ -19,3 +26,10 @@ pub record Loaded (file starts continues emoji : List ℕ) (r : Loading) : Type 
   pub inside : Inside starts continues emoji r
   pub from_file : (v : Version) (L : Lists) → load file ≡ loaded v L → r.done ≡ true
       → (take r.starts starts ≡ L.starts) × ((take r.continues continues ≡ L.continues) × (take r.emoji emoji ≡ L.emoji))
+
+-- what is written of a file that was read: nothing where its lists were loaded, else the line that says why not
+abbrev pub loading_said : ReadAnswer → List ℕ
+loading_said (read.Loaded held) = []
+loading_said (read.Line index) = lists_line (read_numbers (read.Line index))
+loading_said (read.Room list needed) = lists_line (read_numbers (read.Room list needed))
+loading_said (read.Refused bad) = lists_line (read_numbers (read.Refused bad))

@@ -3,10 +3,14 @@
 // say what a file holds: what is promised is that what was loaded lies within the runs.
 #![tactic(auto)]
 
-ghost use Rattle.std.specs.Prelude.{◌≡◌, false, length, IfOk, OnErr};
-ghost use Rattle.loading.specs.Inside.{loading, Inside, Loaded};
+ghost use Rattle.std.specs.Prelude.{◌≡◌, true, false, length, IfOk, OnOk};
+ghost use Rattle.std.specs.Io.KnownBytes.{Appends, Keeps};
+ghost use Rattle.lists_in.specs.Answers.{counts, read_answer};
+ghost use Rattle.reports.specs.Lines.{lists_line};
+ghost use Rattle.loading.specs.Inside.{loading, Inside, Loaded, loading_said};
 
 use lists_in::ReadAnswer;
+use ranges::MAX_PAIRS;
 use refusal::{Bad, Numbers};
 use std::env::Env;
 use std::io::Write;
@@ -56,7 +60,8 @@ fn path_room() -> [u8; 4096]
 
 // No lists, and the line that says why.
 fn refused<W: Write>(to: &mut W, why: Numbers) -> io::Result<Loading>
-    ensures { IfOk result (λ r. r ≡ loading false 0 0 0) }
+    ensures none { IfOk result (λ r. r ≡ loading false 0 0 0) }
+    ensures said { OnOk result (Appends (W.contents to.old) (W.contents to.new) (lists_line why)) }
 {
     reports::say_lists(to, why)?;
     Ok(nothing())
@@ -70,7 +75,10 @@ fn load_bytes<W: Write>(
     continues: &mut [u32],
     emoji: &mut [u32],
 ) -> io::Result<Loading>
-    ensures { IfOk result (λ r. Loaded file.now starts.new continues.new emoji.new r) }
+    ensures loaded { IfOk result (λ r. Loaded file.now starts.new continues.new emoji.new r) }
+    ensures said { OnOk result (Appends (W.contents to.old) (W.contents to.new) (loading_said (read_answer MAX_PAIRS file.now (counts (length starts.old) (length continues.old) (length emoji.old))))) }
+    ensures silent { IfOk result (λ r. r.done ≡ true → Keeps (W.contents to.old) (W.contents to.new)) }
+    ensures kept { (length starts.new ≡ length starts.old) × ((length continues.new ≡ length continues.old) × (length emoji.new ≡ length emoji.old)) }
 {
     let answer = lists_in::read_lists(file, starts, continues, emoji);
     match answer {
@@ -105,7 +113,9 @@ pub fn load<R: Env + Files, W: Write>(
     continues: &mut [u32],
     emoji: &mut [u32],
 ) -> io::Result<Loading>
-    ensures { IfOk result (λ r. Inside starts.new continues.new emoji.new r) }
+    ensures inside { IfOk result (λ r. Inside starts.new continues.new emoji.new r) }
+    ensures silent { IfOk result (λ r. r.done ≡ true → Keeps (W.contents to.old) (W.contents to.new)) }
+    ensures kept { (length starts.new ≡ length starts.old) × ((length continues.new ≡ length continues.old) × (length emoji.new ≡ length emoji.old)) }
 {
     let Some(mut opened) = named(rt) else {
         return refused(to, refusal::done(0, 0));
