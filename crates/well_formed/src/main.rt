@@ -3,7 +3,9 @@
 // More than 262,144 bytes are refused as too long: `refused`, a tab, 1, a tab, 0.
 #![tactic(auto)]
 
-ghost use Rattle.std.specs.Prelude.{◌≡◌, length};
+ghost use Rattle.std.specs.Prelude.{◌≡◌, length, OnOk};
+ghost use Rattle.std.specs.Io.KnownBytes.{Appends};
+ghost use Rattle.well_formed.specs.Said.{said};
 
 use refusal::{Bad, Verdict};
 use std::io;
@@ -16,7 +18,10 @@ fn room() -> [u8; 262145]
     [0; 262145]
 }
 
-fn say<W: Write>(to: &mut W, verdict: Verdict, bytes: usize) -> io::Result<()> {
+// Writes what was found of a text of so many bytes.
+fn say<W: Write>(to: &mut W, verdict: Verdict, bytes: usize) -> io::Result<()>
+    ensures { OnOk result (Appends (W.contents to.old) (W.contents to.new) (said verdict bytes)) }
+{
     match verdict {
         Verdict::Refused(bad) => reports::say_why(to, bad),
         Verdict::Fine => writeln!(to, "well-formed\t{bytes}"),
