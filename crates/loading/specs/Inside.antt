@@ -1,5 +1,5 @@
 -- What was loaded lies within the runs.
-use Rattle.std.specs.Prelude.{ℕ, ◌≡◌, ◌≤◌, Bool, true, List, [], length, take}
+use Rattle.std.specs.Prelude.{ℕ, ◌≡◌, ◌≤◌, Bool, true, false, List, [], length, take}
 use Rattle.token.specs.Lists.{Lists}
 use Rattle.lists_file.specs.declared.Version.{Version}
 use Rattle.lists_file.specs.Load.{loaded, load}
@@ -13,13 +13,13 @@ abbrev pub loading : Bool → (starts continues emoji : ℕ) → Loading
 loading done a b c = record { done = done; starts = a; continues = b; emoji = c }
 
 -- the first n numbers of a run lie within it, and are n
-abbrev pub IsPrefixLen : ℕ → List ℕ → Type 0
-IsPrefixLen n xs = (n ≤ length xs) × (n ≡ length (take n xs))
+abbrev pub Counts : ℕ → List ℕ → Type 0
+Counts n xs = (n ≤ length xs) × (n ≡ length (take n xs))
 
 pub record Inside (starts continues emoji : List ℕ) (r : Loading) : Type 0 where
-  pub in_starts : IsPrefixLen r.starts starts
-  pub in_continues : IsPrefixLen r.continues continues
-  pub in_emoji : IsPrefixLen r.emoji emoji
+  pub in_starts : Counts r.starts starts
+  pub in_continues : Counts r.continues continues
+  pub in_emoji : Counts r.emoji emoji
 
 -- and where lists were loaded, they are those of the file
 pub record Loaded (file starts continues emoji : List ℕ) (r : Loading) : Type 0 where
@@ -33,3 +33,10 @@ loading_said (read.Loaded held) = []
 loading_said (read.Line index) = lists_line (read_numbers (read.Line index))
 loading_said (read.Room list needed) = lists_line (read_numbers (read.Room list needed))
 loading_said (read.Refused bad) = lists_line (read_numbers (read.Refused bad))
+
+-- whether lists are loaded
+abbrev pub is_loaded : ReadAnswer → Bool
+is_loaded (read.Loaded held) = true
+is_loaded (read.Line index) = false
+is_loaded (read.Room list needed) = false
+is_loaded (read.Refused bad) = false

@@ -7,7 +7,7 @@ ghost use Rattle.std.specs.Prelude.{◌≡◌, true, false, length, IfOk, OnOk};
 ghost use Rattle.std.specs.Io.KnownBytes.{Appends, Keeps};
 ghost use Rattle.lists_in.specs.Answers.{counts, read_answer};
 ghost use Rattle.reports.specs.Lines.{lists_line};
-ghost use Rattle.loading.specs.Inside.{loading, Inside, Loaded, loading_said};
+ghost use Rattle.loading.specs.Inside.{loading, Inside, Loaded, loading_said, is_loaded};
 
 use lists_in::ReadAnswer;
 use ranges::MAX_PAIRS;
@@ -76,6 +76,7 @@ fn load_bytes<W: Write>(
     emoji: &mut [u32],
 ) -> io::Result<Loading>
     ensures loaded { IfOk result (λ r. Loaded file.now starts.new continues.new emoji.new r) }
+    ensures done { IfOk result (λ r. r.done ≡ is_loaded (read_answer MAX_PAIRS file.now (counts (length starts.old) (length continues.old) (length emoji.old)))) }
     ensures said { OnOk result (Appends (W.contents to.old) (W.contents to.new) (loading_said (read_answer MAX_PAIRS file.now (counts (length starts.old) (length continues.old) (length emoji.old))))) }
     ensures silent { IfOk result (λ r. r.done ≡ true → Keeps (W.contents to.old) (W.contents to.new)) }
     ensures kept { (length starts.new ≡ length starts.old) × ((length continues.new ≡ length continues.old) × (length emoji.new ≡ length emoji.old)) }
