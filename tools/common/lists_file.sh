@@ -36,7 +36,7 @@ judge_lists() {
     9) bad_line "$beside" ;;
     3) bad_pair "$beside" "$second" ;;
     esac
-    die "$name: the programs in $root/target/bin do not read its copy: $word $number $beside $second"
+    die "$name: the programs in $root/crates do not read its copy: $word $number $beside $second"
 }
 
 too_long() {

@@ -1,10 +1,11 @@
 # shellcheck shell=sh disable=SC2016,SC2154
 # tools/common/programs.sh: the proved programs, for the tools that run them on files: lovemudarn, printed, well-formed. It is sourced, and the script that
-# does so has set `tool`, what it is called in messages, and `root`, the folder of the repository. tools/run uses find_kit and program alone.
+# does so has set `tool`, what it is called in messages, and `root`, the folder of the repository. tools/run and .ci/run use parts of it.
 #
 #   make_room               makes a temporary folder, `room`, and says what happens at the end and at signals
 #   ready PROGRAM..         proves and builds the programs if that was not done since the sources last changed
-#   find_kit, program NAME  the toolchain's folder, and a program, run under its loader
+#   program NAME            a program, run
+#   mark_built MARK PROGRAM..   marks the programs as those of the sources at the time of a file
 #   take FILE               a copy of a file: `room`/text
 #   run NAME [FILE]         what a program writes for the copy, or for another file: `room`/answer
 #   in_copy                 the place in the copy of one in the replaced text, of which the key is
@@ -199,48 +200,46 @@ take() {
     [ "$ended" -eq 0 ] || unread "$(tail -n 1 "$room/complaint")"
 }
 
+# file_of PROGRAM: leaves in `its_file` where rt puts a program that it built
+file_of() { its_file=$root/crates/$1/out/$1; }
+
 # is_built PROGRAM..: whether each program is that of the sources. A stamp has the time before the build began. The time at which a file was last changed in
-# any way (-cnewer) cannot be set by hand, so that sources which are unpacked with their old times are noticed too.
+# any way (-cnewer) cannot be set by hand, so that sources which are unpacked with their old times are noticed too. What rt keeps in
+# the folders out/ is no source, and a crate's own folder changes with them.
 is_built() {
     for program; do
-        [ -x "$root/target/bin/$program" ] && [ -f "$state/built-$program" ] || return 1
+        file_of "$program"
+        [ -x "$its_file" ] && [ -f "$state/built-$program" ] || return 1
         shift
         set -- "$@" -o -cnewer "$state/built-$program"
     done
     shift
-    changed=$(find "$root/crates.txt" "$root/crates" \( "$@" \) -print 2>/dev/null) && [ -z "$changed" ]
+    changed=$(cd "$root" && find crates.txt crates -path 'crates/*/out' -prune -o -type d -path 'crates/*' ! -path 'crates/*/*' -o \( "$@" \) -print 2>/dev/null) && [ -z "$changed" ]
+}
+
+# mark_built MARK PROGRAM..: the programs that are there were built after the time of the file MARK, all of them from the sources of that time
+mark_built() {
+    mark=$1
+    shift
+    mkdir -p "$state" || return
+    for program; do
+        file_of "$program"
+        [ -x "$its_file" ] && true >"$state/built-$program" && touch -r "$mark" "$state/built-$program" || return
+    done
 }
 
 # ready PROGRAM..: they are asked about once in a run
 ready() {
     [ "${are_ready:-}" != "$*" ] || return 0
     is_built "$@" || build "$@"
-    find_kit "$1"
     are_ready=$*
 }
 
-# find_kit [PROGRAM]: leaves in `tools` the toolchain's folder for this machine. The stamp of a program that was built here has the toolchain's.
-find_kit() {
-    kit=${RATTLE_HOME:-}
-    [ -n "$kit" ] || [ $# -eq 0 ] || IFS= read -r kit <"$state/built-$1"
-    machine=$(uname -m)
-    if [ -z "$kit" ] || [ ! -e "$kit/on/$machine/toolchain/lib/ld-linux-x86-64.so.2" ]; then ask_kit; fi
-    tools=$kit/on/$machine/toolchain
-    emulator=$tools/bin/qemu-x86_64
-    [ -x "$emulator" ] || emulator=
-}
-ask_kit() {
-    command -v rt >/dev/null 2>&1 || die 'the command rt of the Rattle toolchain is not on the path'
-    kit=$(rt doc) || die 'the Rattle toolchain does not work here'
-    kit=${kit%/*/*}
-}
-
-# program NAME [ARG..]: runs a program as rt does, under the toolchain's own loader and C library, and under its emulator where the machine is no x86-64. With
-# `by` set to exec it takes the place of this shell.
+# program NAME [ARG..]: runs a program. With `by` set to exec it takes the place of this shell.
 program() {
-    program=$1
+    file_of "$1"
     shift
-    ${by:-} ${emulator:+"$emulator"} "$tools/lib/ld-linux-x86-64.so.2" --library-path "$tools/lib" "$root/target/bin/$program" "$@"
+    ${by:-} "$its_file" "$@"
 }
 
 # run PROGRAM [FILE]: what the program writes for the copy, or for another file; a program that reads with lists is handed the copy of their file, and after it the word in `asked`, if there is one. It does not tell
@@ -567,41 +566,51 @@ weigh() {
     esac
 }
 
-# parts PROGRAM..: the parts that the programs are made of, as crates.txt has them
+# parts PROGRAM..: the parts that the programs are made of, as crates.txt has them, in the order in which rt builds them: each after those that it uses
 parts() {
     awk -v wanted="$*" '
         function visit(name,    list, i, m) {
             if (!(name in uses) || name in seen) return
             seen[name] = 1
-            print name
             m = split(uses[name], list, " ")
             for (i = 1; i <= m; i++) visit(list[i])
+            print name
         }
-        { sub(/#.*/, ""); i = index($0, ":"); if (i) uses[substr($0, 1, i - 1)] = substr($0, i + 1) }
+        { sub(/#.*/, ""); i = index($0, ":"); if (i) { split(substr($0, 1, i - 1), word, " "); uses[word[1]] = substr($0, i + 1) } }
         END { m = split(wanted, list, " "); for (i = 1; i <= m; i++) visit(list[i]) }' "$root/crates.txt"
 }
 
-# follow PROGRAM..: reads what rt says, keeps it, and says how far it is: by the time that the parts so far took, once a tenth is done
+# follow PROGRAM..: reads what rt says, keeps it, and says how far it is: by the time that the parts so far took, once a tenth is done. rt says nothing of a part
+# that it finds built; the parts come in turn, so that all before the one that it speaks of are done.
 follow() {
-    total=0 count=0 all=0 proved=0
+    total=0 all=0 order=' '
     for name in $(parts "$@"); do
         weigh "$name"
-        total=$((total + 1)) all=$((all + weight))
+        total=$((total + 1)) all=$((all + weight)) order="$order$name "
     done
+    count=0 proved=0 spoken=
     began=$(date +%s)
     while IFS= read -r said; do
         printf '%s\n' "$said" >&3
-        case $said in 'rt: '*' proved ('*) ;; *) continue ;; esac
-        count=$((count + 1))
-        name=${said#rt: }
-        name=${name%% *}
-        weigh "$name"
-        case $said in *' proved (unchanged'*)
-            all=$((all - weight))
+        case $said in
+        'crate '*': modules loaded='*)
+            spoken=${said#crate }
+            spoken=${spoken%%:*}
             continue
             ;;
+        'logic=proved '*) ;;
+        *) continue ;;
         esac
-        proved=$((proved + weight))
+        case $order in *" $spoken "*) ;; *) continue ;; esac
+        # those before it were there
+        while [ "${order%% *}" != "$spoken" ]; do
+            order=${order#* }
+            name=${order%% *}
+            [ -n "$name" ] || break
+            weigh "$name"
+            count=$((count + 1))
+            if [ "$name" = "$spoken" ]; then proved=$((proved + weight)); else all=$((all - weight)); fi
+        done
         left=
         if [ "$count" -lt "$total" ] && [ $((proved * 10)) -ge "$all" ]; then
             seconds=$((($(date +%s) - began) * (all - proved) / proved))
@@ -609,7 +618,7 @@ follow() {
             elif [ "$seconds" -lt 90 ]; then left=', about a minute left'
             else left=", about $(((seconds + 30) / 60)) minutes left"; fi
         fi
-        echo "$tool: proved $count of $total parts ($name)$left" >&2
+        echo "$tool: proved $count of $total parts ($spoken)$left" >&2
     done 3>"$room/log"
 }
 
@@ -638,42 +647,41 @@ build() {
     me=
 }
 
-# build_held PROGRAM..: the same, where this run has the lock
+# build_held PROGRAM..: the same, where this run has the lock. `rt run` is how rt builds a program, which it then runs, with no input: whether it came to that is
+# what its log tells, and not its status, which is the program's.
 build_held() {
     missing=
     for program; do
-        [ -x "$root/target/bin/$program" ] || missing=$program
+        file_of "$program"
+        [ -x "$its_file" ] || missing=$program
+        [ -d "$root/crates/$program/src" ] || die "there is no $root/crates/$program"
     done
     if [ -z "$missing" ]; then
         echo "$tool: making sure that the programs are those of the sources; what changed is proved again, once" >&2
     else
         echo "$tool: the first run proves and builds the programs, once. This takes $first_run; later runs take a fraction of a second." >&2
     fi
-    ask_kit
-    for program; do
-        printf '%s\n' "$kit" >"$state/began-$program" || die "$state cannot be written"
-    done
+    true >"$state/began" || die "$state cannot be written"
     rm -f "$room/ended"
     building=yes
     watch >/dev/null 2>&1 </dev/null &
     LOVEMUDARN_BUILD="$builds<$me>" sh -c '
         [ -e "$1" ] || exit
-        ended=$2
-        cd "$3" && shift 3 && rt check "$@" 2>&1 </dev/null
-        echo $? >"$ended"' sh "$lock/held-$me" "$room/ended" "$root" "$@" | follow "$@" &
+        ended=$2 root=$3 said=$4
+        shift 4
+        for program; do
+            cd "$root/crates/$program" || exit
+            { rt run 2>&1 </dev/null; echo "rt run in $PWD ended with status $?"; } | tee "$said"
+            grep -q "^rt: running out/$program" "$said" || exit
+        done
+        echo built >"$ended"' sh "$lock/held-$me" "$room/ended" "$root" "$room/said" "$@" | follow "$@" &
     wait $!
     building=
-    ended=unknown missing=
+    ended=
     [ ! -s "$room/ended" ] || read -r ended <"$room/ended"
-    for program; do
-        [ -x "$root/target/bin/$program" ] || missing=$program
-    done
-    if [ "$ended" != 0 ] || [ -n "$missing" ]; then
+    if [ "$ended" != built ] || ! mark_built "$state/began" "$@"; then
         tail -n 20 "$room/log" >&2
-        die "the programs could not be built: \`rt check $*\` in $root ended with status $ended, and above is the end of what it said"
+        die "the programs could not be built with \`rt run\`, and above is the end of what it said"
     fi
-    for program; do
-        mv "$state/began-$program" "$state/built-$program" || die "$state cannot be written"
-    done
     echo "$tool: the programs are built" >&2
 }
