@@ -8,8 +8,8 @@ import re
 NUMBER = re.compile(r"(?<![\w'.·])(0x[0-9A-Fa-f]+|\d+)(?![\w'.·])")
 PAIRS_RT = [(" <= ", " < "), (" < ", " <= "), (" == ", " != "), (" != ", " == "), (" + ", " - "), (" - ", " + "), (" * ", " + "), (" / ", " * "),
             (" && ", " || "), (" || ", " && "), ("true", "false"), ("false", "true"), ("::Inner", "::Outer"), (" !", " ")]
-PAIRS_ANTT = [("leb ", "ltb "), ("ltb ", "leb "), ("and ", "or "), ("or ", "and "), ("true", "false"), ("false", "true"), (" + ", " * "), ("take ", "drop "),
-              ("(not ", "("), ("'#'", "'-'"), ("'double'", "'single'"), ("'single'", "'double'"), ("'newline'", "'#'"), ("'/'", "'#'"), ("ifEat ", "ifAt ")]
+PAIRS_ANTT = [("leb ", "ltb "), ("ltb ", "leb "), (" ≤ ", " < "), (" < ", " ≤ "), ("and ", "or "), ("or ", "and "), ("true", "false"), ("false", "true"), (" + ", " * "), ("take ", "drop "),
+              ("(not ", "("), ("'#'", "'-'"), ("'double'", "'single'"), ("'single'", "'double'"), ("'newline'", "'#'"), ("'/'", "'#'"), ("if_eat ", "if_at ")]
 WORD = r"(?<![\w'·.-]){}(?![\w'·-])"
 
 
@@ -73,7 +73,7 @@ def in_scope(lines):
 def of_definitions(lines):
     """(index, new line) for every wrong definition of a file of specs"""
     names = in_scope(lines)
-    pairs = [(old, new) for old, new in PAIRS_ANTT if new.strip() in names or f"_{new.strip()}_" in names or new == "("]
+    pairs = [(old, new) for old, new in PAIRS_ANTT if new.strip() in names or f"◌{new.strip()}◌" in names or new == "("]
     for i, line in enumerate(lines):
         bare = line.strip()
         if not bare or bare.startswith(("--", "use ", "pub mod", "abbrev ", "unfoldable ", "module ", "pub data", "pub record")) or " : " in line and "=" not in line:
