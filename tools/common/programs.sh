@@ -680,7 +680,7 @@ build_held() {
     ended=
     [ ! -s "$room/ended" ] || read -r ended <"$room/ended"
     if [ "$ended" != built ] || ! mark_built "$state/began" "$@"; then
-        tail -n 20 "$room/log" >&2
+        grep -v -e '^statements ' -e '^library ' -e '^logic ' "$room/log" | tail -n 20 >&2
         die "the programs could not be built with \`rt run\`, and above is the end of what it said"
     fi
     echo "$tool: the programs are built" >&2
