@@ -3,6 +3,9 @@ use Rattle.std.specs.Prelude.{ℕ, ◌≡◌, ◌≤◌, Bool, true, false, List
 use Rattle.token.specs.Lists.{Lists}
 use Rattle.lists_file.specs.declared.Version.{Version}
 use Rattle.lists_file.specs.Load.{loaded, load}
+use Rattle.std.specs.declared.option.Option.{Option}
+use Rattle.std.specs.Io.KnownBytes.{Appends}
+use Rattle.refusal.specs.declared.Numbers.{Numbers}
 use Rattle.lists_in.specs.declared.ReadAnswer.{ReadAnswer}
 use Rattle.lists_in.specs.declared.ReadAnswer.TheVariants as read
 use Rattle.lists_in.specs.Answers.{read_numbers}
@@ -40,3 +43,7 @@ is_loaded (read.Loaded held) = true
 is_loaded (read.Line index) = false
 is_loaded (read.Room list needed) = false
 is_loaded (read.Refused bad) = false
+
+-- why there are no lists was told, in one line
+abbrev pub Told : (before now : Option (List ℕ)) → Type 0
+Told before now = (why : Numbers) × Appends before now (lists_line why)

@@ -7,7 +7,7 @@ ghost use Rattle.std.specs.Prelude.{◌≡◌, true, false, length, IfOk, OnOk};
 ghost use Rattle.std.specs.Io.KnownBytes.{Appends, Keeps};
 ghost use Rattle.lists_in.specs.Answers.{counts, read_answer};
 ghost use Rattle.reports.specs.Lines.{lists_line};
-ghost use Rattle.loading.specs.Inside.{loading, Inside, Loaded, loading_said, is_loaded};
+ghost use Rattle.loading.specs.Inside.{loading, Inside, Loaded, loading_said, is_loaded, Told};
 
 use lists_in::ReadAnswer;
 use ranges::MAX_PAIRS;
@@ -62,6 +62,7 @@ fn path_room() -> [u8; 4096]
 fn refused<W: Write>(to: &mut W, why: Numbers) -> io::Result<Loading>
     ensures none { IfOk result (λ r. r ≡ loading false 0 0 0) }
     ensures said { OnOk result (Appends (W.contents to.old) (W.contents to.new) (lists_line why)) }
+    ensures told { OnOk result (Told (W.contents to.old) (W.contents to.new)) }
 {
     reports::say_lists(to, why)?;
     Ok(nothing())
@@ -79,6 +80,7 @@ fn load_bytes<W: Write>(
     ensures done { IfOk result (λ r. r.done ≡ is_loaded (read_answer MAX_PAIRS file.now (counts (length starts.old) (length continues.old) (length emoji.old)))) }
     ensures said { OnOk result (Appends (W.contents to.old) (W.contents to.new) (loading_said (read_answer MAX_PAIRS file.now (counts (length starts.old) (length continues.old) (length emoji.old))))) }
     ensures silent { IfOk result (λ r. r.done ≡ true → Keeps (W.contents to.old) (W.contents to.new)) }
+    ensures told { IfOk result (λ r. r.done ≡ false → Told (W.contents to.old) (W.contents to.new)) }
     ensures kept { (length starts.new ≡ length starts.old) × ((length continues.new ≡ length continues.old) × (length emoji.new ≡ length emoji.old)) }
 {
     let answer = lists_in::read_lists(file, starts, continues, emoji);
@@ -116,6 +118,7 @@ pub fn load<R: Env + Files, W: Write>(
 ) -> io::Result<Loading>
     ensures inside { IfOk result (λ r. Inside starts.new continues.new emoji.new r) }
     ensures silent { IfOk result (λ r. r.done ≡ true → Keeps (W.contents to.old) (W.contents to.new)) }
+    ensures told { IfOk result (λ r. r.done ≡ false → Told (W.contents to.old) (W.contents to.new)) }
     ensures kept { (length starts.new ≡ length starts.old) × ((length continues.new ≡ length continues.old) × (length emoji.new ≡ length emoji.old)) }
 {
     let Some(mut opened) = named(rt) else {
