@@ -24,6 +24,7 @@ pub fn is_cr_lf(text: &[u8], c: CodePoint, next: usize) -> bool
 }
 
 // Whether CR CR LF stands at a place.
+#[tactic(auto, using(crate::proofs::Places::double_all, crate::proofs::Places::double_second, crate::proofs::Places::double_first))]
 fn double_at(text: &[u8], at: usize) -> bool
     requires { at + 2 < length text.now }
     ensures { result ≡ double_at (drop at text.now) }

@@ -123,6 +123,7 @@ fn decode_four(text: &[u8], at: usize, a: u32, low: u32, high: u32) -> Decoded
 }
 
 // The sequence whose first byte is a and whose rest is at `at`: the rows of RFC 3629 section 4.
+#[tactic(auto, using(crate::proofs::Rows::row_00, crate::proofs::Rows::row_C2, crate::proofs::Rows::row_E0, crate::proofs::Rows::row_E1, crate::proofs::Rows::row_ED, crate::proofs::Rows::row_EE, crate::proofs::Rows::row_F0, crate::proofs::Rows::row_F1, crate::proofs::Rows::row_F4, crate::proofs::Rows::row_none_80, crate::proofs::Rows::row_none_F5))]
 fn decode_lead(text: &[u8], at: usize, a: u32) -> Decoded
     requires { (a < 256) × (at ≤ length text.now) }
     ensures { result ≡ lead a (drop at text.now) }

@@ -1,3 +1,4 @@
+use Prim.Native.Nat.{◌+◌, ◌-◌, ◌/◌}
 use native.Mathlib.Omega.{arith}
 use Rattle.ranges.proofs.Search.{seek_start, seek_below, seek_above, seek_hit, seek_end}
 use Rattle.ranges.proofs.Turns.{fewer}
@@ -16,7 +17,7 @@ pub loop-begin-smaller : goal.loop-begin-smaller
 loop-begin-smaller c = fewer _ _ (omega arith) (omega arith)
 
 pub loop-begin-preserved : goal.loop-begin-preserved
-loop-begin-preserved c = seek_above c.requires c.loop-begin.invariant c.if-high-c.true (omega arith) (omega arith) (omega arith)
+loop-begin-preserved c = seek_above c.requires c.loop-begin.invariant {m = c.loop-begin.begin + (c.loop-begin.end - c.loop-begin.begin) / 2} (omega arith) (omega arith) (omega arith) (omega arith)
 
 pub returns-else-high-c : goal.returns-else-high-c
 returns-else-high-c c = seek_hit _ _ c.if-c-low.false c.if-high-c.false (omega arith)
