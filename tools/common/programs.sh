@@ -242,8 +242,8 @@ program() {
     ${by:-} "$its_file" "$@"
 }
 
-# run PROGRAM [FILE]: what the program writes for the copy, or for another file; a program that reads with lists is handed the copy of their file, and after it the word in `asked`, if there is one. It does not tell
-# when a write fails, so that it writes into a pipe and cat writes the answer. The first eight bytes are left in `first`.
+# run PROGRAM [FILE]: what the program writes for the copy, or for another file; a program that reads with lists is handed the copy of their file, and after it the word in `asked`, if there is one. It writes
+# into a pipe and cat writes the answer, so that a write that fails is told apart from a program that does. The first eight bytes are left in `first`.
 run() {
     true >"$room/ended" || full
     case $1 in *_with) with=$room/lists ;; *) with= ;; esac
