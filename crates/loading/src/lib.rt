@@ -108,7 +108,7 @@ fn named<R: Env + Files>(rt: &R) -> Option<R::File> {
 }
 
 // The lists of the file that the first argument names. A file that cannot be opened or read is told as one that is refused, and is no error: an error is that the
-// line could not be written.
+// line could not be written. The runs keep their lengths then too.
 pub fn load<R: Env + Files, W: Write>(
     rt: &R,
     to: &mut W,

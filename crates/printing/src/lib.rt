@@ -1,5 +1,6 @@
 // What the programs write of a text: a line a token, or the key; or, where the text is refused, one line that says why. More than 65,536 bytes are
-// refused as too long. No contract can say what reaches a program's standard output: the gate compares it.
+// refused as too long. Where a write fails its error is the answer, the only one there is; a beginning of what was to be written may then have been. No contract can
+// say what reaches a program's standard output: the gate compares it.
 #![tactic(auto)]
 
 ghost use Rattle.std.specs.Prelude.{◌+◌, ◌≤◌, ◌≡◌, length, take, false, IfOk, OnOk};

@@ -1,4 +1,5 @@
-// What the programs write where they refuse: one line. No contract can say what reaches a program's standard output: the gate compares it.
+// What the programs write where they refuse: one line. Where a write fails its error is the answer, the only one there is; a beginning of the line may then have
+// been written. No contract can say what reaches a program's standard output: the gate compares it.
 #![tactic(auto)]
 
 ghost use Rattle.std.specs.Prelude.{OnOk};
