@@ -553,7 +553,7 @@ watch() {
     done
 }
 
-# How long each part took, in seconds (Arm, two cores; the parts of the machine on x86-64, doubled): what is left is judged by it. A part that is not named counts as 20.
+# How long each part took, in seconds, with an older toolchain (Arm, two cores; the parts of the machine on x86-64, doubled): what is left is judged by it. A part that is not named counts as 20.
 weights=' refusal 7 basics 1 puts 4 text 31 ranges 20 eaters 1 reports 5 classes 21 token 5 cursor 26 kinds 34 canon 9 comment 26 words 32 quoted 17 numerals 19 '
 weights=$weights'token_line 11 literals 18 frontmatter 26 prefixed 15 advance 36 lexer 22 lines 42 key 20 print_tokens 59 print_key 59 tokens_with 59 key_with 59 well_formed 16 '
 weights=$weights'fields 14 lists_file 22 lists_in 30 printing 30 loading 12 places 1 line_ends 9 marks 9 machine 12 goes 6 comment_turns 10 word_turns 22 quote_turns 24 number_turns 22 turns 38 engine 30 '
