@@ -1,4 +1,5 @@
 -- Document 01, "Lines on both sides": the first token of each text, with empty lists, computed by the definitions from the text's bytes.
+use Rattle.std.specs.Prelude.{None, Some, Err}
 use Prim.Native.Nat.{ℕ}
 use mathlib.Core.Path.{◌≡◌, refl}
 use mathlib.Core.Bool.{Bool, true, false}
@@ -14,18 +15,14 @@ use Rattle.eaters.specs.Eat.{give, eat, eat_any, while, while_most, ◌>>=◌, t
 use Rattle.eaters.specs.Look.{if_at, if_two, if_begins}
 use Rattle.eaters.specs.Scan.{scan, first_with}
 use Rattle.eaters.specs.Find.{at, nowhere, find}
-use Rattle.token.specs.declared.DocStyle.TheVariants.{Outer, Inner, Plain}
-use Rattle.token.specs.declared.HashCount.TheVariants.{Of, NoCount}
+use Rattle.token.specs.declared.DocStyle.TheVariants.{Outer, Inner}
 use Rattle.token.specs.declared.Base.TheVariants.{Binary, Decimal, Hexadecimal}
 use Rattle.token.specs.declared.LiteralKind.TheVariants as literal
 use Rattle.token.specs.declared.LiteralKind.TheVariants.{Int, Float, Char, Str}
 use Rattle.token.specs.declared.TokenKind.{TokenKind}
 use Rattle.token.specs.declared.TokenKind.TheVariants.{LineComment, BlockComment, Whitespace, Frontmatter, Literal, Unknown, Eof}
 use Rattle.token.specs.declared.Token.{Token}
-use Rattle.token.specs.declared.Offset.TheVariants.{At}
 use Rattle.token.specs.declared.RawStrError.TheVariants.{NoTerminator}
-use Rattle.token.specs.declared.RawStr.TheVariants.{Bad}
-use Rattle.token.specs.declared.Guarded.TheVariants.{Found}
 use Rattle.token.specs.Lists.{none}
 use Rattle.token.specs.Frontmatter.{last_search, body}
 use Rattle.token.specs.Advance.{advance}
@@ -60,11 +57,11 @@ Hold (l ∷ ls) = (get_or (records none l.on l.text) 0 (token Eof 0) ≡ token l
 -- the rows marked P
 abbrev pub marked : List Line
 marked =
-    line (BlockComment Plain false) 5 (47 ∷ 42 ∷ 47 ∷ 42 ∷ 47 ∷ [])
-    ∷ line (BlockComment Plain true) 5 (47 ∷ 42 ∷ 42 ∷ 42 ∷ 47 ∷ [])
-    ∷ line (BlockComment Outer true) 6 (47 ∷ 42 ∷ 42 ∷ 97 ∷ 42 ∷ 47 ∷ [])
-    ∷ line (LineComment Plain) 4 (47 ∷ 47 ∷ 47 ∷ 47 ∷ [])
-    ∷ line (Literal (literal.RawStr NoCount) 4) 4 (114 ∷ 35 ∷ 35 ∷ 126 ∷ 120 ∷ [])
+    line (BlockComment None false) 5 (47 ∷ 42 ∷ 47 ∷ 42 ∷ 47 ∷ [])
+    ∷ line (BlockComment None true) 5 (47 ∷ 42 ∷ 42 ∷ 42 ∷ 47 ∷ [])
+    ∷ line (BlockComment (Some Outer) true) 6 (47 ∷ 42 ∷ 42 ∷ 97 ∷ 42 ∷ 47 ∷ [])
+    ∷ line (LineComment None) 4 (47 ∷ 47 ∷ 47 ∷ 47 ∷ [])
+    ∷ line (Literal (literal.RawStr None) 4) 4 (114 ∷ 35 ∷ 35 ∷ 126 ∷ 120 ∷ [])
     ∷ line (Literal (Char true) 4) 4 (39 ∷ 97 ∷ 98 ∷ 39 ∷ 99 ∷ [])
     ∷ line (Literal (Char true) 3) 4 (39 ∷ 97 ∷ 39 ∷ 99 ∷ [])
     ∷ line (Literal (Char true) 3) 3 (39 ∷ 39 ∷ 39 ∷ [])
@@ -89,9 +86,9 @@ others =
     ∷ line (Unknown) 1 (0 ∷ [])
     ∷ line (Literal (Char true) 3) 3 (39 ∷ 0 ∷ 39 ∷ [])
     ∷ line (Literal (Str true) 3) 3 (34 ∷ 0 ∷ 34 ∷ [])
-    ∷ line (BlockComment Plain true) 5 (47 ∷ 42 ∷ 0 ∷ 42 ∷ 47 ∷ [])
-    ∷ line (BlockComment Plain false) 3 (47 ∷ 42 ∷ 47 ∷ [])
-    ∷ line (BlockComment Plain false) 7 (47 ∷ 42 ∷ 47 ∷ 42 ∷ 47 ∷ 42 ∷ 47 ∷ [])
+    ∷ line (BlockComment None true) 5 (47 ∷ 42 ∷ 0 ∷ 42 ∷ 47 ∷ [])
+    ∷ line (BlockComment None false) 3 (47 ∷ 42 ∷ 47 ∷ [])
+    ∷ line (BlockComment None false) 7 (47 ∷ 42 ∷ 47 ∷ 42 ∷ 47 ∷ 42 ∷ 47 ∷ [])
     ∷ line (Literal (Char true) 4) 5 (39 ∷ 195 ∷ 169 ∷ 39 ∷ 120 ∷ [])
     ∷ []
 
@@ -100,12 +97,12 @@ unfolding byte two three four lead decoded chars_after width in_pairs is_whitesp
 others_hold = (refl, (refl, (refl, (refl, (refl, (refl, (refl, (refl, (refl, (refl, (refl, (refl, tt))))))))))))
 
 -- the raw check: r##"é"# with prefix 1 gives NoTerminator, expected 2, found 1, offset 7
-pub raw_row : raw_check 1 (chars (drop 1 (114 ∷ 35 ∷ 35 ∷ 34 ∷ 195 ∷ 169 ∷ 34 ∷ 35 ∷ []))) ≡ Bad (NoTerminator 2 1 (At 7))
+pub raw_row : raw_check 1 (chars (drop 1 (114 ∷ 35 ∷ 35 ∷ 34 ∷ 195 ∷ 169 ∷ 34 ∷ 35 ∷ []))) ≡ Err (NoTerminator 2 1 (Some 7))
 unfolding byte two three four lead decoded chars_after width in_pairs is_whitespace is_horizontal_whitespace letter id_start id_continue emoji_char give eat eat_any while while_most ◌>>=◌ texted choose if_at if_two if_begins scan first_with find last_search body advance tokens_after guess raw_check
 raw_row = refl
 
 -- the guarded string: ##"a"x gives 2 hashes, terminated, length 6
-pub guarded_row : guarded_string none (chars (35 ∷ 35 ∷ 34 ∷ 97 ∷ 34 ∷ 120 ∷ [])) ≡ record { took = 6; said = Found (record { n_hashes = 2; terminated = true; token_len = 6 }) }
+pub guarded_row : guarded_string none (chars (35 ∷ 35 ∷ 34 ∷ 97 ∷ 34 ∷ 120 ∷ [])) ≡ record { took = 6; said = Some (record { n_hashes = 2; terminated = true; token_len = 6 }) }
 unfolding byte two three four lead decoded chars_after width in_pairs is_whitespace is_horizontal_whitespace letter id_start id_continue emoji_char give eat eat_any while while_most ◌>>=◌ texted choose if_at if_two if_begins scan first_with find last_search body advance tokens_after
 guarded_row = refl
 
@@ -116,12 +113,12 @@ shebang_rows = (refl, (refl, refl))
 
 -- trivia (document 01, "The key"): whitespace, and comments whose doc style is none; a doc comment of either style is not trivia
 pub trivia_rows :
-    (is_trivia Whitespace ≡ true) × (is_trivia (LineComment Plain) ≡ true) × (is_trivia (BlockComment Plain true) ≡ true) × (is_trivia (LineComment Outer) ≡ false)
-    × (is_trivia (LineComment Inner) ≡ false) × (is_trivia (BlockComment Outer true) ≡ false) × (is_trivia (BlockComment Inner true) ≡ false)
+    (is_trivia Whitespace ≡ true) × (is_trivia (LineComment None) ≡ true) × (is_trivia (BlockComment None true) ≡ true) × (is_trivia (LineComment (Some Outer)) ≡ false)
+    × (is_trivia (LineComment (Some Inner)) ≡ false) × (is_trivia (BlockComment (Some Outer) true) ≡ false) × (is_trivia (BlockComment (Some Inner) true) ≡ false)
 trivia_rows = (refl, refl, refl, refl, refl, refl, refl)
 
 -- broken (document 01, "The key"): a literal that does not end or has no hash count, and a block comment that does not end
 pub broken_rows :
-    (is_broken (Literal (Char false) 2) ≡ true) × (is_broken (Literal (Char true) 3) ≡ false) × (is_broken (Literal (literal.RawStr NoCount) 4) ≡ true)
-    × (is_broken (Literal (literal.RawStr (Of 0)) 4) ≡ false) × (is_broken (BlockComment Plain false) ≡ true) × (is_broken (BlockComment Plain true) ≡ false)
+    (is_broken (Literal (Char false) 2) ≡ true) × (is_broken (Literal (Char true) 3) ≡ false) × (is_broken (Literal (literal.RawStr None) 4) ≡ true)
+    × (is_broken (Literal (literal.RawStr (Some 0)) 4) ≡ false) × (is_broken (BlockComment None false) ≡ true) × (is_broken (BlockComment None true) ≡ false)
 broken_rows = (refl, refl, refl, refl, refl, refl)

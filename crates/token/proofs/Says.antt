@@ -1,5 +1,6 @@
 -- What a scan says has a property: a law for each word of the vocabulary and for each rule of the book, in the end for advance.
 -- The property is a test; the premises of a rule are that it holds of the kinds that the rule can say.
+use Rattle.std.specs.Prelude.{Option}
 use Prim.Native.Nat.{ℕ, zero, suc}
 use mathlib.Core.Path.{◌≡◌, sym, ap, subst, ◌∙◌}
 use mathlib.Core.Bool.{Bool, true, false}
@@ -13,7 +14,6 @@ use Rattle.classes.specs.Whitespace.{is_whitespace}
 use Rattle.eaters.specs.Eat.{Got, Eater, give, eat, ◌>>=◌, ◌>>◌, choose}
 use Rattle.eaters.specs.Look.{if_at, if_two, if_eat, begins, if_begins}
 use Rattle.token.specs.declared.DocStyle.{DocStyle}
-use Rattle.token.specs.declared.HashCount.{HashCount}
 use Rattle.token.specs.declared.LiteralKind.{LiteralKind}
 use Rattle.token.specs.declared.LiteralKind.TheVariants.{CStr, RawCStr, ByteStr, RawByteStr}
 use Rattle.token.specs.declared.TokenKind.{TokenKind}
@@ -95,7 +95,7 @@ word : {p : TokenKind → Bool} → Worded p → (n : ℕ) → p (get_or words n
 word {p} w n = every_at p words w.bare n {k = kind.Unknown} (and_1 _ _ w.bare)
 
 module _ {p : TokenKind → Bool} where
-  pub says_slash : ((d : DocStyle) → p (kind.LineComment d) ≡ true) → ((d : DocStyle) (t : Bool) → p (kind.BlockComment d t) ≡ true) → p kind.Slash ≡ true → Says p slash
+  pub says_slash : ((d : Option DocStyle) → p (kind.LineComment d) ≡ true) → ((d : Option DocStyle) (t : Bool) → p (kind.BlockComment d t) ≡ true) → p kind.Slash ≡ true → Says p slash
   says_slash l b s =
       says_if_eat _ (says_bind _ (λ t. says_give _ (l _)))
       (says_if_eat _ (says_bind _ (λ r. says_give _ (b _ _))) (says_give _ s))
@@ -139,7 +139,7 @@ module _ {p : TokenKind → Bool} (w : Worded p) (L : Lists) where
   pub says_k : Says p (after_k L)
   says_k = says_if_two _ _ (says_then _ (says_give _ (word w 4))) says_word
 
-  pub says_c : (mk : Bool → LiteralKind) (raw : HashCount → LiteralKind) → Says p (after_c L mk raw)
+  pub says_c : (mk : Bool → LiteralKind) (raw : Option ℕ → LiteralKind) → Says p (after_c L mk raw)
   says_c mk raw = says_if_eat _ (says_lit 2 _) (says_if_two _ _ (says_then _ (says_lit 2 _)) says_word)
 
   pub says_b : Says p (after_b L)

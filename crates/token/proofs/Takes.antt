@@ -1,4 +1,5 @@
 -- No rule takes more characters than there are: a term for each rule, which mirrors it.
+use Rattle.std.specs.Prelude.{Option}
 use Prim.Native.Nat.{ℕ, zero, suc, ◌+◌, ◌≤◌, zero-le, suc-le-suc}
 use mathlib.Core.Path.{◌≡◌, refl, ap}
 use mathlib.Core.List.{List, [], ◌∷◌}
@@ -12,7 +13,6 @@ use Rattle.eaters.specs.Look.{begins}
 use Rattle.eaters.specs.Find.{Place, at, nowhere, further, or_else}
 use Rattle.eaters.proofs.Fits.{Fits, fits_give, fits_eat, fits_any, fits_while, fits_bind, fits_then, fits_texted, fits_choose, fits_if_at, fits_if_eat, fits_if_two, fits_more, fits_if_begins, begins_long, fits_scan, fits_first_with, fits_wider, fits_if_at_one}
 use Rattle.eaters.proofs.Firsts.{find_first}
-use Rattle.token.specs.declared.HashCount.{HashCount}
 use Rattle.token.specs.declared.LiteralKind.{LiteralKind}
 use Rattle.token.specs.declared.LiteralKind.TheVariants.{Char, Byte, Str, ByteStr, CStr, RawStr, RawByteStr, RawCStr}
 use Rattle.token.specs.declared.Base.{Base}
@@ -68,7 +68,7 @@ pub fits_single : (mk : Bool → LiteralKind) → Fits 0 (single_quoted mk)
 fits_single mk =
     fits_bind (fits_if_two _ (is 'single') refl (fits_then (fits_eat 2) (fits_give true)) (fits_scan single_turn 0 1)) (λ t. fits_give _)
 
-pub fits_raw : (mk : HashCount → LiteralKind) → Fits 0 (raw_string mk)
+pub fits_raw : (mk : Option ℕ → LiteralKind) → Fits 0 (raw_string mk)
 fits_raw mk =
     fits_bind (fits_while (is '#'))
     (λ h. fits_if_eat (is 'double') refl (fits_bind (fits_first_with 'double' '#' (length h)) (λ t. fits_give _)) (fits_then fits_any (fits_give _)))
@@ -131,7 +131,7 @@ fits_r L =
 fits_k : (L : Lists) → Fits 0 (after_k L)
 fits_k L = fits_if_two _ (starting L) (starts_nothing L) (fits_hashed L _) (fits_word L)
 
-fits_c : (L : Lists) (mk : Bool → LiteralKind) (raw : HashCount → LiteralKind) → Fits 0 (after_c L mk raw)
+fits_c : (L : Lists) (mk : Bool → LiteralKind) (raw : Option ℕ → LiteralKind) → Fits 0 (after_c L mk raw)
 fits_c L mk raw =
     fits_if_eat (is 'double') refl (fits_literal L 2 (fits_double mk))
     (fits_if_two _ hash_or_quote refl (fits_wider (omega arith) (fits_then (fits_eat 1) (fits_literal L 2 (fits_raw raw)))) (fits_word L))

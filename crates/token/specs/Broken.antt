@@ -1,16 +1,14 @@
 -- Broken tokens (document 01, "The key"): a literal that does not end or has no hash count, and a block comment that does not end.
-use Rattle.std.specs.Prelude.{Bool, true, false, not}
-use Rattle.token.specs.declared.HashCount.{HashCount}
-use Rattle.token.specs.declared.HashCount.TheVariants.{Of, NoCount}
+use Rattle.std.specs.Prelude.{ℕ, Bool, true, false, not, Option, None, Some}
 use Rattle.token.specs.declared.LiteralKind.{LiteralKind}
 use Rattle.token.specs.declared.LiteralKind.TheVariants.{Int, Float, Char, Byte, Str, ByteStr, CStr, RawStr, RawByteStr, RawCStr}
 use Rattle.token.specs.declared.TokenKind.{TokenKind}
 use Rattle.token.specs.Shapes.{Shape, line, block, white, front, lit, life, bare, shape_of}
 
 -- a raw string has no hash count: it begins badly, does not end, or has more than 255 hashes
-abbrev pub no_count : HashCount → Bool
-no_count (Of n) = false
-no_count NoCount = true
+abbrev pub no_count : Option ℕ → Bool
+no_count (Some n) = false
+no_count None = true
 
 abbrev pub broken_literal : LiteralKind → Bool
 broken_literal (Int a b) = false

@@ -1,18 +1,18 @@
 -- Comments (000's line_comment and block_comment), after the two characters that open them.
-use Rattle.std.specs.Prelude.{ℕ, List, Bool, not, get_or}
+use Rattle.std.specs.Prelude.{ℕ, List, Bool, not, get_or, Option, None, Some}
 use Rattle.basics.specs.Choice.{pick, and, or}
 use Rattle.eaters.specs.Eat.{Eater, give, while, ◌>>=◌, texted}
 use Rattle.eaters.specs.Look.{if_eat}
 use Rattle.eaters.specs.Scan.{Turn, go, deeper, shallower, scan}
 use Rattle.token.specs.declared.DocStyle.{DocStyle}
-use Rattle.token.specs.declared.DocStyle.TheVariants.{Outer, Inner, Plain}
+use Rattle.token.specs.declared.DocStyle.TheVariants.{Outer, Inner}
 use Rattle.token.specs.declared.TokenKind.{TokenKind}
 use Rattle.token.specs.declared.TokenKind.TheVariants.{LineComment, BlockComment, Slash}
 use Rattle.token.specs.Names.{is, 'newline', '!', '*', '/'}
 
 -- //! is inner; /// is outer, unless a fourth / follows
-abbrev pub line_doc : (text : List ℕ) → DocStyle
-line_doc t = pick (is '!' (get_or t 0 0)) Inner (pick (and (is '/' (get_or t 0 0)) (not (is '/' (get_or t 1 0)))) Outer Plain)
+abbrev pub line_doc : (text : List ℕ) → Option DocStyle
+line_doc t = pick (is '!' (get_or t 0 0)) (Some Inner) (pick (and (is '/' (get_or t 0 0)) (not (is '/' (get_or t 1 0)))) (Some Outer) None)
 
 -- not the end of the line
 abbrev pub in_line : ℕ → Bool
@@ -25,9 +25,9 @@ line_comment = do
   give (LineComment (line_doc t))
 
 -- /*! is inner; /** is outer, unless * or / follows
-abbrev pub block_doc : (text : List ℕ) → DocStyle
+abbrev pub block_doc : (text : List ℕ) → Option DocStyle
 block_doc t =
-    pick (is '!' (get_or t 0 0)) Inner (pick (and (is '*' (get_or t 0 0)) (not (or (is '*' (get_or t 1 0)) (is '/' (get_or t 1 0))))) Outer Plain)
+    pick (is '!' (get_or t 0 0)) (Some Inner) (pick (and (is '*' (get_or t 0 0)) (not (or (is '*' (get_or t 1 0)) (is '/' (get_or t 1 0))))) (Some Outer) None)
 
 -- /* adds one to the depth and */ takes one, each pair used once
 abbrev pub block_turn : (depth c next : ℕ) → Turn

@@ -1,12 +1,11 @@
 -- Guarded strings (000's guarded_double_quoted_string), at any place.
-use Rattle.std.specs.Prelude.{ℕ, Bool, length}
+use Rattle.std.specs.Prelude.{ℕ, Bool, length, Option, None, Some}
 use Rattle.eaters.specs.Eat.{Eater, give, nothing, while, ◌>>=◌, ◌>>◌, texted, choose}
 use Rattle.eaters.specs.Look.{if_eat}
 use Rattle.eaters.specs.Eat.{Read, while_most}
 use Rattle.eaters.specs.Scan.{scan}
 use Rattle.text.specs.Chars.{size}
-use Rattle.token.specs.declared.Guarded.{Guarded}
-use Rattle.token.specs.declared.Guarded.TheVariants.{Found, NotFound}
+use Rattle.token.specs.declared.GuardedStr.{GuardedStr}
 use Rattle.token.specs.Names.{is, 'double', '#'}
 use Rattle.token.specs.Lists.{Lists}
 use Rattle.token.specs.Literals.{identifier}
@@ -38,10 +37,10 @@ guard L = do
       (give none)
 
 -- what is found, with its bytes
-abbrev pub found : Read Guard → Guarded
-found r = elim r.said [ string n t ↦ Found (record { n_hashes = n; terminated = t; token_len = size r.text }) | none ↦ NotFound ]
+abbrev pub found : Read Guard → Option GuardedStr
+found r = elim r.said [ string n t ↦ Some (record { n_hashes = n; terminated = t; token_len = size r.text }) | none ↦ None ]
 
-abbrev pub guarded_string : Lists → Eater Guarded
+abbrev pub guarded_string : Lists → Eater (Option GuardedStr)
 guarded_string L = do
   r ← texted (guard L)
   give (found r)

@@ -1,8 +1,7 @@
 -- What the letters r, k, b and c begin (000's arms for them, and c_or_byte_string), after the letter.
-use Rattle.std.specs.Prelude.{Bool}
+use Rattle.std.specs.Prelude.{ℕ, Bool, Option}
 use Rattle.eaters.specs.Eat.{Eater, give, eat, ◌>>◌}
 use Rattle.eaters.specs.Look.{if_at, if_two, if_eat}
-use Rattle.token.specs.declared.HashCount.{HashCount}
 use Rattle.token.specs.declared.LiteralKind.{LiteralKind}
 use Rattle.token.specs.declared.LiteralKind.TheVariants.{Byte, ByteStr, RawStr, RawByteStr}
 use Rattle.token.specs.declared.TokenKind.{TokenKind}
@@ -30,7 +29,7 @@ abbrev pub after_k : Lists → Eater TokenKind
 after_k L = if_two (is '#') (starting L) (hashed L ForcedKeywordIdent) (ident_or_unknown_prefix L)
 
 -- a quote: a string; r and a hash or a quote: a raw string
-abbrev pub after_c : Lists → (Bool → LiteralKind) → (HashCount → LiteralKind) → Eater TokenKind
+abbrev pub after_c : Lists → (Bool → LiteralKind) → (Option ℕ → LiteralKind) → Eater TokenKind
 after_c L string raw =
     if_eat (is 'double') (literal L 2 (double_quoted string))
     (if_two (is 'r') hash_or_quote (eat 1 >> literal L 2 (raw_string raw)) (ident_or_unknown_prefix L))

@@ -1,13 +1,13 @@
 -- The shape of a kind: what the kind holds, or, for the others, its number in the order of 000. The one table over the kinds: other definitions go by shape.
-use Rattle.std.specs.Prelude.{ℕ, Bool}
+use Rattle.std.specs.Prelude.{ℕ, Bool, Option}
 use Rattle.token.specs.declared.DocStyle.{DocStyle}
 use Rattle.token.specs.declared.LiteralKind.{LiteralKind}
 use Rattle.token.specs.declared.TokenKind.{TokenKind}
 use Rattle.token.specs.declared.TokenKind.TheVariants.{LineComment, BlockComment, Whitespace, Frontmatter, Ident, InvalidIdent, RawIdent, ForcedKeywordIdent, UnknownPrefix, UnknownPrefixLifetime, RawLifetime, GuardedStrPrefix, Literal, Lifetime, Semi, Comma, Dot, OpenParen, CloseParen, OpenBrace, CloseBrace, OpenBracket, CloseBracket, At, Pound, Tilde, Question, Colon, Dollar, Eq, Bang, Lt, Gt, Minus, And, Or, Plus, Star, Slash, Caret, Percent, Unknown, Eof}
 
 pub data Shape : Type 0 where
-  line : DocStyle → Shape
-  block : DocStyle → (terminated : Bool) → Shape
+  line : Option DocStyle → Shape
+  block : Option DocStyle → (terminated : Bool) → Shape
   white : Shape
   front : (whitespaceBefore badInfostring : Bool) → Shape
   lit : LiteralKind → (suffixStart : ℕ) → Shape

@@ -1,14 +1,12 @@
 -- Trivia (document 01, "The key"): whitespace, and comments that are not doc comments.
-use Rattle.std.specs.Prelude.{Bool, true, false}
+use Rattle.std.specs.Prelude.{Bool, true, false, Option, None, Some}
 use Rattle.token.specs.declared.DocStyle.{DocStyle}
-use Rattle.token.specs.declared.DocStyle.TheVariants.{Outer, Inner, Plain}
 use Rattle.token.specs.declared.TokenKind.{TokenKind}
 use Rattle.token.specs.Shapes.{Shape, line, block, white, front, lit, life, bare, shape_of}
 
-abbrev pub is_plain : DocStyle → Bool
-is_plain Outer = false
-is_plain Inner = false
-is_plain Plain = true
+abbrev pub is_plain : Option DocStyle → Bool
+is_plain (Some d) = false
+is_plain None = true
 
 abbrev pub shape_trivia : Shape → Bool
 shape_trivia (line d) = is_plain d

@@ -1,22 +1,14 @@
-// The types of 000, by value. What 000 writes as an `Option` is a case of its own here. The rules of tokens stand in specs/.
+// The types of 000, by value, with its `Option`s and its `Result`. The rules of tokens stand in specs/.
 #![tactic(auto)]
 
-// 000's `Option<DocStyle>`: `Plain` is not a doc comment.
-#[derive(Clone, Copy)]
+// The style of a doc comment. A comment that is not a doc comment has none: its kind holds `None`.
+#[derive(Clone, Copy, PartialEq, Eq)]
 pub enum DocStyle {
     Outer,
     Inner,
-    Plain,
 }
 
-// 000's `Option<u8>` of a raw string's hashes: no count for a bad start, for no end, and for more than 255.
-#[derive(Clone, Copy)]
-pub enum HashCount {
-    Of(u8),
-    NoCount,
-}
-
-#[derive(Clone, Copy)]
+#[derive(Clone, Copy, PartialEq, Eq)]
 pub enum Base {
     Binary,
     Octal,
@@ -24,7 +16,8 @@ pub enum Base {
     Hexadecimal,
 }
 
-#[derive(Clone, Copy)]
+// The `n_hashes` of a raw string: none for a bad start, for no end, and for more than 255.
+#[derive(Clone, Copy, PartialEq, Eq)]
 pub enum LiteralKind {
     Int { base: Base, empty_int: bool },
     Float { base: Base, empty_exponent: bool },
@@ -33,19 +26,19 @@ pub enum LiteralKind {
     Str { terminated: bool },
     ByteStr { terminated: bool },
     CStr { terminated: bool },
-    RawStr { n_hashes: HashCount },
-    RawByteStr { n_hashes: HashCount },
-    RawCStr { n_hashes: HashCount },
+    RawStr { n_hashes: Option<u8> },
+    RawByteStr { n_hashes: Option<u8> },
+    RawCStr { n_hashes: Option<u8> },
 }
 
 // In the order of 000. `suffix_start` counts bytes from the token's start; where there is no suffix it is the token's length.
-#[derive(Clone, Copy)]
+#[derive(Clone, Copy, PartialEq, Eq)]
 pub enum TokenKind {
     LineComment {
-        doc_style: DocStyle,
+        doc_style: Option<DocStyle>,
     },
     BlockComment {
-        doc_style: DocStyle,
+        doc_style: Option<DocStyle>,
         terminated: bool,
     },
     Whitespace,
@@ -100,7 +93,7 @@ pub enum TokenKind {
 }
 
 // A token of a text: `len` bytes from byte `start` on, with `line` line feeds before it.
-#[derive(Clone, Copy)]
+#[derive(Clone, Copy, PartialEq, Eq)]
 pub struct Token {
     pub kind: TokenKind,
     pub len: u32,
@@ -109,29 +102,15 @@ pub struct Token {
 }
 
 // What `guarded_double_quoted_string` finds: the hashes before it, whether it ends, and its bytes.
-#[derive(Clone, Copy)]
+#[derive(Clone, Copy, PartialEq, Eq)]
 pub struct GuardedStr {
     pub n_hashes: u32,
     pub terminated: bool,
     pub token_len: u32,
 }
 
-// 000's `Option<GuardedStr>`.
-#[derive(Clone, Copy)]
-pub enum Guarded {
-    Found(GuardedStr),
-    NotFound,
-}
-
-// 000's `Option<u32>` of a byte offset at which a raw string may have been meant to end.
-#[derive(Clone, Copy)]
-pub enum Offset {
-    At(u32),
-    Nowhere,
-}
-
-// What is wrong with a raw string. `bad_char` is 0 where the text ends.
-#[derive(Clone, Copy)]
+// What is wrong with a raw string. `bad_char` is 0 where the text ends; the offset counts bytes to where the string may have been meant to end.
+#[derive(Clone, Copy, PartialEq, Eq)]
 pub enum RawStrError {
     InvalidStarter {
         bad_char: u32,
@@ -139,16 +118,9 @@ pub enum RawStrError {
     NoTerminator {
         expected: u32,
         found: u32,
-        possible_terminator_offset: Offset,
+        possible_terminator_offset: Option<u32>,
     },
     TooManyDelimiters {
         found: u32,
     },
-}
-
-// What the raw check says: 000's `Result<(), RawStrError>`.
-#[derive(Clone, Copy)]
-pub enum RawStr {
-    Good,
-    Bad(RawStrError),
 }
