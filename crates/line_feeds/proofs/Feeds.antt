@@ -1,7 +1,9 @@
 -- Laws of the line of a place.
 use Prim.Native.Nat.{ℕ, zero, suc, ◌+◌, ◌≤◌}
 use mathlib.Core.Path.{◌≡◌, refl, ap, ◌∙◌}
-use mathlib.Core.Bool.{Bool, true, false}
+use Rattle.std.specs.List.{count_by}
+use Rattle.std.proofs.lemmas.List.Recursion.{is_count_by}
+use mathlib.Core.Bool.{Bool, true, false, cond}
 use mathlib.Core.List.{List, [], ◌∷◌}
 use lib.Dec.{eqb}
 use lib.ListN.{length, take, drop, length-take}
@@ -16,6 +18,14 @@ feed_few b = go (eqb b 0x0A)
     go : (t : Bool) → pick t 1 0 ≤ 1
     go true = omega arith
     go false = omega arith
+
+-- as std counts them
+pub feeds_counted : (s : List ℕ) → line_feeds s ≡ count_by (λ b. eqb b 0x0A) s
+feeds_counted = is_count_by line_feeds (λ b. eqb b 0x0A) refl (λ b s. at_test (eqb b 0x0A) (line_feeds s))
+  where
+    at_test : (t : Bool) (n : ℕ) → pick t 1 0 + n ≡ cond t (1 + n) n
+    at_test true n = refl
+    at_test false n = omega arith
 
 -- no more LFs than bytes
 pub feeds_few : (s : List ℕ) → line_feeds s ≤ length s

@@ -1,3 +1,2 @@
 pub mod Feeds
-mod Counting
 pub mod Answers
