@@ -26,3 +26,10 @@ pub fn read_full<R: Read>(from: &mut R, buf: &mut [u8]) -> io::Result<usize>
     }
     Ok(done)
 }
+
+// Of one value as many as the caller's type says, as the zeros of a buffer. Only the number of them is promised, so that no proof unfolds the array.
+pub fn filled<T: Copy, const N: usize>(x: T) -> [T; N]
+    ensures { N ≡ length result }
+{
+    [x; N]
+}
