@@ -11,8 +11,7 @@ use Rattle.text.proofs.Texts.{size_chars, width_some}
 use Rattle.eaters.specs.Eat.{take_while, while, eat}
 use Rattle.eaters.proofs.Fits.{fits_while}
 use Rattle.cursor.specs.declared.Cursor.{Cursor}
-use Rattle.cursor.specs.declared.Step.{Step}
-use Rattle.cursor.specs.declared.Step.TheVariants.{Got}
+use Rattle.std.specs.Prelude.{Option, Some}
 use Rattle.cursor.specs.Cursors.{rest, rest_is, Seen}
 use Rattle.cursor.specs.Moved.{Moved, passed}
 use Rattle.token.specs.declared.TokenKind.TheVariants as kind
@@ -46,7 +45,7 @@ bump_bytes {s} {b} {d} {x} e h m =
     ran_bytes (eat 1) (ran_eat m) n ∙ ap (λ (l : List ℕ). b.at + size l) t ∙ omega arith
 
 -- a character ends within the text, and a move that starts there ends there
-pub char_within : {s : List ℕ} {a d : Cursor} {r : Step} {c : ℕ} → r ≡ Got c d → Seen s a r → d.at ≤ length s
+pub char_within : {s : List ℕ} {a d : Cursor} {r : Option (ℕ × Cursor)} {c : ℕ} → r ≡ Some (c, d) → Seen s a r → d.at ≤ length s
 char_within {s} {a} {c = c} e h =
     omega (arith, ap size (sym (rest_is s a) ∙ (char_at e h).chars), (char_at e h).bytes, width_some c, size_chars (drop a.at s), length-drop a.at s)
 

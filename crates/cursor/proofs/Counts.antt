@@ -10,8 +10,7 @@ use borrow.Author.Tests.{eq-eqb, ne_eqb}
 use Rattle.eaters.specs.Eat.{take_while}
 use Rattle.token.specs.Names.{is}
 use Rattle.cursor.specs.declared.Cursor.{Cursor}
-use Rattle.cursor.specs.declared.Step.{Step}
-use Rattle.cursor.specs.declared.Step.TheVariants.{Got, Over}
+use Rattle.std.specs.Prelude.{Option, None, Some}
 use Rattle.cursor.specs.Cursors.{rest, Seen}
 use Rattle.cursor.specs.Counted.{Counted}
 use Rattle.cursor.proofs.Steps.{rest_short}
@@ -36,8 +35,8 @@ pub record Counting (x : ℕ) (s : List ℕ) (a b : Cursor) (n : ℕ) : Type 0 w
 pub counting_none : (x : ℕ) (s : List ℕ) (a : Cursor) → Counting x s a a 0
 counting_none x s a = record { eaten = eaten_none (is x) s a; count = omega arith; few = omega arith }
 
-module _ {x : ℕ} {s : List ℕ} {a b : Cursor} {n : ℕ} {r : Step} (i : Counting x s a b n) (h : Seen s b r) where
-  module _ {c : ℕ} {d : Cursor} (e : r ≡ Got c d) where
+module _ {x : ℕ} {s : List ℕ} {a b : Cursor} {n : ℕ} {r : Option (ℕ × Cursor)} (i : Counting x s a b n) (h : Seen s b r) where
+  module _ {c : ℕ} {d : Cursor} (e : r ≡ Some (c, d)) where
     pub counting_fits : length s * 1 < 2 ^ 63 → Fits w64 (n + 1)
     counting_fits g = record { fits = omega (arith, ap length (char_at e h).chars, i.few, rest_short s a) }
 
@@ -56,5 +55,5 @@ module _ {x : ℕ} {s : List ℕ} {a b : Cursor} {n : ℕ} {r : Step} (i : Count
           count = omega (arith, i.count, ap (run x) (char_at e h).chars, run_off x c (rest s d) q);
         }
 
-  pub counting_over : r ≡ Over → Counted x s a (record { next = b; count = n })
+  pub counting_over : r ≡ None → Counted x s a (record { next = b; count = n })
   counting_over e = record { moved = eaten_over (is x) i.eaten h e; count = omega (arith, i.count, ap (run x) (end_at e h)) }

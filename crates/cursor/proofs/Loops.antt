@@ -4,15 +4,20 @@ use mathlib.Core.Path.{◌≡◌, refl, sym, ap, ◌∙◌}
 use mathlib.Core.Bool.{Bool, true, false}
 use mathlib.Core.List.{List, [], ◌∷◌}
 use lib.ListN.{get_or, drop}
+use native.Mathlib.Omega.{arith}
 use Rattle.eaters.specs.Eat.{take_while, while}
 use Rattle.eaters.specs.Scan.{after, Turn, taking, break_off, go, skip, scan}
 use Rattle.cursor.specs.declared.Cursor.{Cursor}
-use Rattle.cursor.specs.declared.Step.{Step}
-use Rattle.cursor.specs.declared.Step.TheVariants.{Got as Char, Over}
+use Rattle.std.specs.Prelude.{Option, None, Some}
 use Rattle.cursor.specs.Cursors.{rest, Here, Seen}
 use Rattle.cursor.specs.Moved.{Moved, start, over, left_of, onward, arrive}
 use Rattle.cursor.specs.Ran.{left, Ran}
+use Rattle.cursor.specs.Wanted.{Says, AteWhile}
 use Rattle.cursor.proofs.Moves.{char_at, end_at, bumped}
+
+-- a character is a CodePoint
+narrow_char : {s : List ℕ} {b d : Cursor} {r : Option (ℕ × Cursor)} {x : ℕ} → r ≡ Some (x, d) → Seen s b r → x < 4294967296
+narrow_char e h = omega (arith, (char_at e h).scalar)
 
 -- A RUN OF CHARACTERS OF p
 pub record Eaten (p : ℕ → Bool) (s : List ℕ) (a b : Cursor) : Type 0 where
@@ -34,8 +39,8 @@ while_none p = refl
 pub eaten_none : (p : ℕ → Bool) (s : List ℕ) (a : Cursor) → Eaten p s a a
 eaten_none p s a = record { moved = start s a; same = refl }
 
-module _ (p : ℕ → Bool) {s : List ℕ} {a b : Cursor} {r : Step} (i : Eaten p s a b) (h : Seen s b r) where
-  module _ {x : ℕ} {d : Cursor} (e : r ≡ Char x d) {t : Bool} (q : t ≡ p x) where
+module _ (p : ℕ → Bool) {s : List ℕ} {a b : Cursor} {r : Option (ℕ × Cursor)} (i : Eaten p s a b) (h : Seen s b r) where
+  module _ {x : ℕ} {d : Cursor} (e : r ≡ Some (x, d)) {t : Bool} (q : t ≡ p x) where
     pub eaten_on : t ≡ true → Eaten p s a d
     eaten_on y =
         record {
@@ -47,8 +52,27 @@ module _ (p : ℕ → Bool) {s : List ℕ} {a b : Cursor} {r : Step} (i : Eaten 
     eaten_off y =
         arrive i.moved ((char_at e h).chars ∙ sym (while_off p x (rest s d) (sym q ∙ y)) ∙ ap (left (while p)) (sym (char_at e h).chars) ∙ i.same)
 
-  pub eaten_over : r ≡ Over → Moved s a b (left (while p) (rest s a))
+  pub eaten_over : r ≡ None → Moved s a b (left (while p) (rest s a))
   eaten_over e = arrive i.moved (end_at e h ∙ sym (while_none p) ∙ ap (left (while p)) (sym (end_at e h)) ∙ i.same)
+
+-- the same of each predicate that a closure's answers are
+pub record EatenBy (post : ℕ → Bool → Type 0) (s : List ℕ) (a b : Cursor) : Type 0 where
+  pub each : (p : ℕ → Bool) → Says post p → Eaten p s a b
+
+module _ (post : ℕ → Bool → Type 0) (s : List ℕ) where
+  pub eaten_by_none : (a : Cursor) → EatenBy post s a a
+  eaten_by_none a = record { each = λ p y. eaten_none p s a }
+
+module _ {post : ℕ → Bool → Type 0} {s : List ℕ} {a b : Cursor} {r : Option (ℕ × Cursor)} (i : EatenBy post s a b) (h : Seen s b r) where
+  module _ {x : ℕ} {d : Cursor} (e : r ≡ Some (x, d)) {t : Bool} (q : post x t) where
+    pub eaten_by_on : t ≡ true → EatenBy post s a d
+    eaten_by_on k = record { each = λ p y. eaten_on p (i.each p y) h e (y x t (narrow_char e h) q) k }
+
+    pub eaten_by_off : t ≡ false → AteWhile post s a b
+    eaten_by_off k p y = eaten_off p (i.each p y) h e (y x t (narrow_char e h) q) k
+
+  pub eaten_by_over : r ≡ None → AteWhile post s a b
+  eaten_by_over e p y = eaten_over p (i.each p y) h e
 
 -- so the run is made
 pub ran_while : (p : ℕ → Bool) {s : List ℕ} {a b : Cursor} → Moved s a b (left (while p) (rest s a)) → Ran (while p) s a b (take_while p (rest s a))

@@ -6,36 +6,35 @@ use lib.ListN.{length, get_or, drop, length-drop}
 use lib.Seq.{drop-drop, get_or-drop}
 use native.Mathlib.Omega.{arith}
 use Rattle.cursor.specs.declared.Cursor.{Cursor}
-use Rattle.cursor.specs.declared.Step.{Step}
-use Rattle.cursor.specs.declared.Step.TheVariants.{Got, Over}
+use Rattle.std.specs.Prelude.{Option, None, Some}
 use Rattle.cursor.specs.Cursors.{rest, Here, Seen, char, end}
 use Rattle.cursor.specs.Moved.{Moved, start, over, left_of, onward, arrive, then}
 
 -- a peek whose case is known
-here : {s : List ℕ} {c : Cursor} {x : ℕ} {d : Cursor} → Seen s c (Got x d) → Here s c x d
+here : {s : List ℕ} {c : Cursor} {x : ℕ} {d : Cursor} → Seen s c (Some (x, d)) → Here s c x d
 here (char h) = h
 
-gone : {s : List ℕ} {c : Cursor} → Seen s c Over → rest s c ≡ []
+gone : {s : List ℕ} {c : Cursor} → Seen s c None → rest s c ≡ []
 gone (end e) = e
 
-pub char_at : {s : List ℕ} {c d : Cursor} {r : Step} {x : ℕ} → r ≡ Got x d → Seen s c r → Here s c x d
-char_at {s} {c} e h = here (subst (λ (p : Step). Seen s c p) e h)
+pub char_at : {s : List ℕ} {c d : Cursor} {r : Option (ℕ × Cursor)} {x : ℕ} → r ≡ Some (x, d) → Seen s c r → Here s c x d
+char_at {s} {c} e h = here (subst (λ (p : Option (ℕ × Cursor)). Seen s c p) e h)
 
-pub end_at : {s : List ℕ} {c : Cursor} {r : Step} → r ≡ Over → Seen s c r → rest s c ≡ []
-end_at {s} {c} e h = gone (subst (λ (p : Step). Seen s c p) e h)
+pub end_at : {s : List ℕ} {c : Cursor} {r : Option (ℕ × Cursor)} → r ≡ None → Seen s c r → rest s c ≡ []
+end_at {s} {c} e h = gone (subst (λ (p : Option (ℕ × Cursor)). Seen s c p) e h)
 
 -- the peeks, and the move past one character
-module _ {s : List ℕ} {b : Cursor} {r : Step} where
-  pub first_there : {x : ℕ} {d : Cursor} → r ≡ Got x d → Seen s b r → x ≡ get_or (rest s b) 0 0
+module _ {s : List ℕ} {b : Cursor} {r : Option (ℕ × Cursor)} where
+  pub first_there : {x : ℕ} {d : Cursor} → r ≡ Some (x, d) → Seen s b r → x ≡ get_or (rest s b) 0 0
   first_there e h = rw (char_at e h).chars
 
-  pub first_gone : r ≡ Over → Seen s b r → 0 ≡ get_or (rest s b) 0 0
+  pub first_gone : r ≡ None → Seen s b r → 0 ≡ get_or (rest s b) 0 0
   first_gone e h = rw (end_at e h)
 
-  pub bump_there : {x : ℕ} {d : Cursor} → r ≡ Got x d → Seen s b r → Moved s b d (drop 1 (rest s b))
+  pub bump_there : {x : ℕ} {d : Cursor} → r ≡ Some (x, d) → Seen s b r → Moved s b d (drop 1 (rest s b))
   bump_there e h = arrive (over (char_at e h)) (rw (char_at e h).chars)
 
-  pub bump_gone : r ≡ Over → Seen s b r → Moved s b b (drop 1 (rest s b))
+  pub bump_gone : r ≡ None → Seen s b r → Moved s b b (drop 1 (rest s b))
   bump_gone e h = arrive (start s b) (rw (end_at e h))
 
 pub second_is : (s : List ℕ) {a b : Cursor} {x : ℕ} → Moved s a b (drop 1 (rest s a)) → x ≡ get_or (rest s b) 0 0 → x ≡ get_or (rest s a) 1 0
@@ -47,7 +46,7 @@ front [] e h = absurd (omega arith)
 front (y ∷ cs) e h = rw e
 
 -- a turn that looks, and one that looks and bumps, leave fewer characters
-module _ {s : List ℕ} {b d : Cursor} {x : ℕ} {r : Step} (e : r ≡ Got x d) (h : Seen s b r) where
+module _ {s : List ℕ} {b d : Cursor} {x : ℕ} {r : Option (ℕ × Cursor)} (e : r ≡ Some (x, d)) (h : Seen s b r) where
   pub fewer_1 : length (rest s d) < length (rest s b)
   fewer_1 = omega (arith, ap length (char_at e h).chars)
 

@@ -13,11 +13,11 @@ use Rattle.text.proofs.Coding.{Fact}
 use Rattle.text.proofs.Texts.{told, size_chars, few_chars}
 use Rattle.text.proofs.Places.{at_ascii, char_chars, end_chars, ill_chars}
 use Rattle.cursor.specs.declared.Cursor.{Cursor}
-use Rattle.cursor.specs.declared.Step.TheVariants.{Got, Over}
+use Rattle.std.specs.Prelude.{None, Some}
 use Rattle.cursor.specs.Cursors.{rest, rest_is, onto, step_at, Seen, char, end}
 
 module _ (s : List ℕ) (c : Cursor) {d : Decoded} (e : d ≡ decoded (drop c.at s)) where
-  pub seen_char : {x w : ℕ} → d ≡ Char x w → Seen s c (Got x (record { at = c.at + w }))
+  pub seen_char : {x w : ℕ} → d ≡ Char x w → Seen s c (Some (x, record { at = c.at + w }))
   unfolding step_at
   seen_char {x} {w} k =
       let f : Fact (drop c.at s) x w = told (drop c.at s) (sym e ∙ k) in
@@ -28,10 +28,10 @@ module _ (s : List ℕ) (c : Cursor) {d : Decoded} (e : d ≡ decoded (drop c.at
         bytes = ap (λ (n : ℕ). c.at + n) (sym f.wide);
       })
 
-  pub seen_end : d ≡ End → Seen s c Over
+  pub seen_end : d ≡ End → Seen s c None
   seen_end k = end (rest_is s c ∙ end_chars s c.at e k)
 
-  pub seen_ill : {x : Cause} → d ≡ Ill x → Seen s c Over
+  pub seen_ill : {x : Cause} → d ≡ Ill x → Seen s c None
   seen_ill k = end (rest_is s c ∙ ill_chars s c.at e k)
 
 -- from a place on
@@ -43,5 +43,5 @@ pub rest_short : (s : List ℕ) (c : Cursor) → length (rest s c) ≤ length s
 rest_short s c = rw (rest_is s c) (omega (arith, few_chars (chars (drop c.at s)), size_chars (drop c.at s), length-drop c.at s))
 
 -- a byte of ASCII at a cursor
-pub seen_ascii : (s : List ℕ) (c : Cursor) {x : ℕ} → c.at < length s → x ≡ get_or s c.at 0 → x < 0x80 → Seen s c (Got x (record { at = c.at + 1 }))
+pub seen_ascii : (s : List ℕ) (c : Cursor) {x : ℕ} → c.at < length s → x ≡ get_or s c.at 0 → x < 0x80 → Seen s c (Some (x, record { at = c.at + 1 }))
 seen_ascii s c {x} h e l = seen_char s c (at_ascii s c.at h e l) refl

@@ -54,12 +54,17 @@ no_more m = omega (arith, fewer m.went, ap length m.left)
 strictly : {s : List ℕ} {c d e : Cursor} {x : ℕ} → Here s c x d → Went s d e → rest s c ≡ rest s e → ⊥
 strictly h w p = omega (arith, ap length h.chars, fewer w, ap length p)
 
+one_next : {s : List ℕ} {c d e : Cursor} {x y : ℕ} → Here s c x d → Here s c y e → e ≡ d
+one_next {d = d} {e} {x} {y} h h₂ =
+    let q : ◌≡◌ {A = ℕ × Cursor} (y, e) (x, d) = cc in
+    ap (λ (p : ℕ × Cursor). p.1) q
+
 same_end : {s : List ℕ} {c d e : Cursor} → Went s c d → Went s c e → rest s d ≡ rest s e → d ≡ e
 same_end none none p = refl
 same_end none (more h w) p = absurd (strictly h w p)
 same_end (more h w) none p = absurd (strictly h w (sym p))
 same_end {s} {c} {d} {e} (more {d = d₁} h w) (more {d = d₂} h₂ w₂) p =
-    let q : d₂ ≡ d₁ = cc in
+    let q : d₂ ≡ d₁ = one_next h h₂ in
     same_end w (subst (λ (z : Cursor). Went s z e) q w₂) p
 
 -- ONE ANSWER: where a move ends, what is left says

@@ -6,6 +6,7 @@
 ghost use Rattle.std.specs.Prelude.{◌≤◌, ◌≡◌, get_or, drop};
 ghost use Rattle.cursor.specs.Cursors.{rest, Seen};
 ghost use Rattle.cursor.specs.Moved.{Moved};
+ghost use Rattle.cursor.specs.Wanted.{AteWhile};
 ghost use Rattle.cursor.specs.Counted.{Counted};
 
 use text::{CodePoint, Decoded};
@@ -14,13 +15,6 @@ use token::{LiteralKind, TokenKind};
 #[derive(Clone, Copy)]
 pub struct Cursor {
     at: usize,
-}
-
-// What a peek gives: a character and the cursor past it, or the end. So a NUL is not the end.
-#[derive(Clone, Copy)]
-pub enum Step {
-    Got(CodePoint, Cursor),
-    Over,
 }
 
 // What a rule of the book gives: the kind of the token, and the cursor past it.
@@ -81,8 +75,9 @@ impl Cursor {
         self.at
     }
 
-    // The next character and the cursor past it, or the end. ASCII is answered before anything else: most characters are.
-    pub fn peek(self, text: &[u8]) -> Step
+    // The next character and the cursor past it; nothing at the end. So a NUL is not the end. ASCII is answered before anything else: most
+    // characters are.
+    pub fn peek(self, text: &[u8]) -> Option<(CodePoint, Cursor)>
         ensures { Seen text.now self result }
     {
         let at = self.at;
@@ -90,24 +85,24 @@ impl Cursor {
             let b = text[at];
             if b < 0x80 {
                 let past = Cursor { at: at + 1 };
-                return Step::Got(b as u32, past);
+                return Some((b as u32, past));
             }
         }
         self.peek_far(text)
     }
 
     // The same of any character, by the decoder.
-    fn peek_far(self, text: &[u8]) -> Step
+    fn peek_far(self, text: &[u8]) -> Option<(CodePoint, Cursor)>
         ensures { Seen text.now self result }
     {
         let at = self.at;
         match text::decode(text, at) {
             Decoded::Char(c, w) => {
                 let next = Cursor { at: at + w };
-                Step::Got(c, next)
+                Some((c, next))
             }
-            Decoded::End => Step::Over,
-            Decoded::Ill(_) => Step::Over,
+            Decoded::End => None,
+            Decoded::Ill(_) => None,
         }
     }
 
@@ -115,20 +110,17 @@ impl Cursor {
     pub fn first(self, text: &[u8]) -> CodePoint
         ensures { result ≡ get_or (rest text.now self) 0 0 }
     {
-        match self.peek(text) {
-            Step::Got(c, _) => c,
-            Step::Over => 0,
-        }
+        self.peek(text).map_or(0, |(c, _)| c)
     }
 
     // Past the next character, if there is one.
     pub fn bump(self, text: &[u8]) -> Cursor
         ensures { Moved text.now self result (drop 1 (rest text.now self)) }
     {
-        match self.peek(text) {
-            Step::Got(_, next) => next,
-            Step::Over => self,
-        }
+        let Some((_, next)) = self.peek(text) else {
+            return self;
+        };
+        next
     }
 
     // Past the next `count` characters, as far as there are some.
@@ -136,10 +128,23 @@ impl Cursor {
         ensures { Moved text.now self result (drop count (rest text.now self)) }
     {
         let mut cur = self;
-        let mut done: usize = 0;
-        while done < count {
+        for _ in 0..count {
             cur = cur.bump(text);
-            done += 1;
+        }
+        cur
+    }
+
+    // Past all characters at the cursor of which the closure says that they are wanted.
+    pub fn eat_while<F: Fn(CodePoint) -> bool>(self, text: &[u8], wanted: F) -> Cursor
+        requires { F.IsAlwaysCallable wanted }
+        ensures { AteWhile (F.post wanted) text.now self result }
+    {
+        let mut cur = self;
+        while let Some((c, next)) = cur.peek(text) {
+            if !wanted(c) {
+                return cur;
+            }
+            cur = next;
         }
         cur
     }
@@ -150,18 +155,14 @@ impl Cursor {
     {
         let mut cur = self;
         let mut count: usize = 0;
-        loop {
-            match cur.peek(text) {
-                Step::Got(c, next) => {
-                    if c != wanted {
-                        return Repeated { next: cur, count };
-                    }
-                    cur = next;
-                    count += 1;
-                }
-                Step::Over => return Repeated { next: cur, count },
+        while let Some((c, next)) = cur.peek(text) {
+            if c != wanted {
+                return Repeated { next: cur, count };
             }
+            cur = next;
+            count += 1;
         }
+        Repeated { next: cur, count }
     }
 
     // The second next character; 0 where there is none.

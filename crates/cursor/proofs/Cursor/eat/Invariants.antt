@@ -3,8 +3,8 @@ use Prim.Native.Nat.{◌-◌}
 use Rattle.cursor.proofs.Moves.{Eating}
 use Rattle.cursor.proofs.Cursor.eat.Given as goal
 
-abbrev pub invariant-loop-done : goal.invariant-loop-done
-invariant-loop-done l = Eating l.count l.text l.initial.cur l.cur l.done
+abbrev pub invariant-loop : goal.invariant-loop
+invariant-loop l = Eating l.count l.text l.initial.cur l.cur l.counter
 
-abbrev pub decreases-loop-done : goal.decreases-loop-done
-decreases-loop-done l = l.count - l.done
+abbrev pub decreases-loop : goal.decreases-loop
+decreases-loop l = l.count - l.counter

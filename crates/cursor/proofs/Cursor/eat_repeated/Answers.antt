@@ -17,5 +17,5 @@ loop-c-smaller c = search fewer_1
 pub loop-c-preserved : goal.loop-c-preserved
 loop-c-preserved c = search counting_on
 
-pub returns-in-Over : goal.returns-in-Over
-returns-in-Over c = search counting_over
+pub returns : goal.returns
+returns c = search counting_over
