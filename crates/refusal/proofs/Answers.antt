@@ -2,12 +2,11 @@
 use mathlib.Core.Path.{◌≡◌, sym, ◌∙◌}
 use Prim.Native.Nat.{ℕ}
 use Rattle.refusal.specs.declared.Numbers.{Numbers}
-use Rattle.refusal.specs.declared.Verdict.{Verdict}
+use Rattle.refusal.specs.Verdict.{Verdict}
 use Rattle.refusal.proofs.done.Reads as done
 use Rattle.refusal.proofs.cause_number.Reads as cause_number
 use Rattle.refusal.proofs.bad_numbers.Reads as bad_numbers
 use Rattle.refusal.proofs.verdict_numbers.Reads as verdict_numbers
-use Rattle.refusal.proofs.first.Reads as first
 use Rattle.refusal.proofs.in_order.Reads as in_order
 use Rattle.refusal.proofs.lists_in_order.Reads as lists_in_order
 
@@ -22,9 +21,6 @@ one_bad_numbers κs a r q x y p e = p ∙ sym e
 
 pub one_verdict_numbers : (κs : _) (a : _) (r q : Numbers) (x y : _) → verdict_numbers.Post κs a r x → verdict_numbers.Post κs a q y → r ≡ q
 one_verdict_numbers κs a r q x y p e = p ∙ sym e
-
-pub one_first : (κs : _) (a : _) (r q : Verdict) (x y : _) → first.Post κs a r x → first.Post κs a q y → r ≡ q
-one_first κs a r q x y p e = p ∙ sym e
 
 pub one_in_order : (κs : _) (a : _) (r q : Verdict) (x y : _) → in_order.Post κs a r x → in_order.Post κs a q y → r ≡ q
 one_in_order κs a r q x y p e = p ∙ sym e

@@ -1,2 +1,3 @@
+pub mod Verdict
 pub mod Numbers
 pub mod Order

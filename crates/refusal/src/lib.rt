@@ -1,11 +1,12 @@
-// The refusals that calls share (document 01, "When the build says no"): 1, 3 and 2, as one value that is handed on whole.
-// A call with refusals of its own has an answer enum that holds `Bad` beside its own cases, and a definition that gives
+// The refusals that calls share (document 01, "When the build says no"): 1, 3 and 2, as one error that is handed on whole: a check is a `Result<(), Bad>`.
+// A call with refusals of its own has an error enum that holds `Shared(bad)` beside its own cases, and a definition that gives
 // the numbers of each case, made from `bad_numbers`.
 #![tactic(auto)]
 
 ghost use Rattle.std.specs.Prelude.{◌≡◌};
 ghost use Rattle.refusal.specs.Order.{in_order, lists_in_order};
 ghost use Rattle.refusal.specs.Numbers.{numbers, cause_number, bad_numbers, verdict_numbers};
+ghost use Rattle.refusal.specs.declared.PlaceRefusal.TheVariants.{Shared};
 
 // Why a sequence of bytes is no character (document 02, W2). Its bytes are judged from the left, and the first that cannot stand where it stands,
 // or the end of the text if that comes first, is the cause.
@@ -29,15 +30,23 @@ pub enum Bad {
     NotUtf8(usize, Cause),
 }
 
-// What a check says.
+// The refusals of a call at a position of a text: it is past the end or inside a character (4), or one that calls share.
 #[derive(Clone, Copy)]
-pub enum Verdict {
-    Fine,
-    Refused(Bad),
+pub enum PlaceRefusal {
+    Position(usize),
+    Shared(Bad),
+}
+
+impl From<Bad> for PlaceRefusal {
+    ghost from_gives = { λ bad refusal. refusal ≡ Shared bad };
+
+    fn from(bad: Bad) -> PlaceRefusal {
+        PlaceRefusal::Shared(bad)
+    }
 }
 
 // A refusal by number: its number in document 01's table (0: done), and the numbers beside it, 0 where there is none.
-#[derive(Clone, Copy)]
+#[derive(Clone, Copy, PartialEq, Eq)]
 pub struct Numbers {
     pub number: u32,
     pub beside: usize,
@@ -55,6 +64,17 @@ pub fn done(beside: usize, second: usize) -> Numbers
     }
 }
 
+// A refusal with the one number beside it.
+pub fn refused(number: u32, beside: usize) -> Numbers
+    ensures { result ≡ numbers number beside 0 }
+{
+    Numbers {
+        number,
+        beside,
+        second: 0,
+    }
+}
+
 pub fn cause_number(cause: Cause) -> usize
     ensures { result ≡ cause_number cause }
 {
@@ -69,11 +89,7 @@ pub fn bad_numbers(bad: Bad) -> Numbers
     ensures { result ≡ bad_numbers bad }
 {
     match bad {
-        Bad::TooLong => Numbers {
-            number: 1,
-            beside: 0,
-            second: 0,
-        },
+        Bad::TooLong => refused(1, 0),
         Bad::List(list, pair) => Numbers {
             number: 3,
             beside: list,
@@ -87,39 +103,43 @@ pub fn bad_numbers(bad: Bad) -> Numbers
     }
 }
 
-pub fn verdict_numbers(verdict: Verdict) -> Numbers
+pub fn verdict_numbers(verdict: Result<(), Bad>) -> Numbers
     ensures { result ≡ verdict_numbers verdict }
 {
     match verdict {
-        Verdict::Fine => Numbers {
-            number: 0,
-            beside: 0,
-            second: 0,
-        },
-        Verdict::Refused(bad) => bad_numbers(bad),
+        Ok(()) => done(0, 0),
+        Err(bad) => bad_numbers(bad),
     }
 }
 
-// The first refusal of two checks.
-fn first(one: Verdict, next: Verdict) -> Verdict
-    ensures { result ≡ Rattle.refusal.specs.Order.first one next }
+// A refusal at a position by number.
+pub fn place_numbers(refusal: PlaceRefusal) -> Numbers
+    ensures { result ≡ Rattle.refusal.specs.Numbers.place_numbers refusal }
 {
-    match one {
-        Verdict::Fine => next,
-        Verdict::Refused(bad) => Verdict::Refused(bad),
+    match refusal {
+        PlaceRefusal::Position(at) => refused(4, at),
+        PlaceRefusal::Shared(bad) => bad_numbers(bad),
     }
 }
 
-// The refusals that calls share, in the order of document 01's table. A call hands in `Fine` for what it does not check.
-pub fn in_order(long: Verdict, lists: Verdict, utf8: Verdict) -> Verdict
+// The refusals that calls share, in the order of document 01's table: the first one that holds. A call hands in `Ok` for what it does not check.
+pub fn in_order(
+    long: Result<(), Bad>,
+    lists: Result<(), Bad>,
+    utf8: Result<(), Bad>,
+) -> Result<(), Bad>
     ensures { result ≡ in_order long lists utf8 }
 {
-    first(long, first(lists, utf8))
+    long.and(lists).and(utf8)
 }
 
 // Refusal 3 for the three lists, in their order.
-pub fn lists_in_order(start: Verdict, goes_on: Verdict, emoji: Verdict) -> Verdict
+pub fn lists_in_order(
+    start: Result<(), Bad>,
+    goes_on: Result<(), Bad>,
+    emoji: Result<(), Bad>,
+) -> Result<(), Bad>
     ensures { result ≡ lists_in_order start goes_on emoji }
 {
-    first(start, first(goes_on, emoji))
+    start.and(goes_on).and(emoji)
 }

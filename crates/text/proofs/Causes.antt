@@ -1,5 +1,6 @@
 -- WHY THE BYTES ARE BAD (document 02, W2): what the causes of the rows mean. First of a row: what it has settled stays so whatever follows, what it finds
 -- cut can be continued, and before a wrong byte it finds the sequence cut. Then of any place of a text, and of the place at which it is refused.
+use Rattle.std.specs.Prelude.{Err}
 use Prim.Native.Nat.{ℕ, suc, ◌≤◌, ◌<◌}
 use mathlib.Core.Path.{◌≡◌, refl, sym, ap, ◌∙◌}
 use mathlib.Core.Bool.{Bool, true, false, true≢false}
@@ -16,7 +17,6 @@ use Rattle.basics.proofs.Choices.{inside_within, and_both, yes_or_no, below_or_n
 use Rattle.refusal.specs.declared.Cause.{Cause}
 use Rattle.refusal.specs.declared.Cause.TheVariants.{Start, Cut, Follow}
 use Rattle.refusal.specs.declared.Bad.TheVariants.{NotUtf8}
-use Rattle.refusal.specs.declared.Verdict.TheVariants.{Fine, Refused}
 use Rattle.text.specs.declared.Decoded.{Decoded}
 use Rattle.text.specs.declared.Decoded.TheVariants.{Char, Ill}
 use Rattle.text.specs.Utf8.{byte, value2, value3, value4, two, three, four, lead, decoded}
@@ -27,6 +27,7 @@ use Rattle.text.proofs.Bytes.{byte_none, byte_in, byte_out}
 use Rattle.text.proofs.Rows.{row_00, row_C2, row_E0, row_E1, row_ED, row_EE, row_F0, row_F1, row_F4, row_none_80, row_none_F5}
 use Rattle.text.proofs.Texts.{told}
 use Rattle.text.proofs.Stops.{first_ill}
+use Rattle.refusal.specs.Verdict.{fine}
 
 -- two answers that are not the same
 no_follow_cut : Ill Follow ≡ Ill Cut → ⊥
@@ -258,11 +259,11 @@ module _ (s : List ℕ) (place : ℕ) {k : Cause} (e : decoded (drop place s) �
           cc
 
 -- A TEXT THAT IS REFUSED: at the place stands an ill-formed sequence, and the cause is its own
-pub refused_ill : (s : List ℕ) {place : ℕ} {k : Cause} → utf8_verdict s ≡ Refused (NotUtf8 place k) → decoded (drop place s) ≡ Ill k
+pub refused_ill : (s : List ℕ) {place : ℕ} {k : Cause} → utf8_verdict s ≡ Err (NotUtf8 place k) → decoded (drop place s) ≡ Ill k
 unfolding utf8_verdict
 refused_ill s {place} {k} e = go (eqb (size (chars s)) (length s)) refl e
   where
-    go : (t : Bool) → eqb (size (chars s)) (length s) ≡ t → pick t Fine (Refused (NotUtf8 (size (chars s)) (cause_of (decoded (drop (size (chars s)) s))))) ≡ Refused (NotUtf8 place k) → decoded (drop place s) ≡ Ill k
+    go : (t : Bool) → eqb (size (chars s)) (length s) ≡ t → pick t fine (Err (NotUtf8 (size (chars s)) (cause_of (decoded (drop (size (chars s)) s))))) ≡ Err (NotUtf8 place k) → decoded (drop place s) ≡ Ill k
     go true q r = let z : ◌≡◌ {A = ℕ} 0 1 = cc in absurd (omega arith)
     go false q r =
         let p : size (chars s) ≡ place = cc in

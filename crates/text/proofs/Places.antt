@@ -1,4 +1,5 @@
 -- What the code finds at a position of a text.
+use Rattle.std.specs.Prelude.{Err}
 use Prim.Native.Nat.{ℕ, ◌+◌, ◌-◌, ◌≤◌, ◌<◌}
 use mathlib.Core.Path.{◌≡◌, sym, ap, ◌∙◌}
 use mathlib.Core.List.{List, [], ◌∷◌}
@@ -9,7 +10,6 @@ use native.Mathlib.Omega.{arith}
 use native.Mathlib.Numerals.{add-one}
 use Rattle.refusal.specs.declared.Bad.TheVariants.{NotUtf8}
 use Rattle.refusal.specs.declared.Cause.{Cause}
-use Rattle.refusal.specs.declared.Verdict.TheVariants.{Fine, Refused}
 use Rattle.text.specs.declared.Decoded.{Decoded}
 use Rattle.text.specs.declared.Decoded.TheVariants.{Char, End, Ill}
 use Rattle.text.specs.Utf8.{lead, decoded}
@@ -18,6 +18,7 @@ use Rattle.text.specs.Verdicts.{cause_of, utf8_verdict}
 use Rattle.text.proofs.Rows.{row_00}
 use Rattle.text.proofs.Coding.{Fact}
 use Rattle.text.proofs.Texts.{stepped, told}
+use Rattle.refusal.specs.Verdict.{fine}
 
 pub at_end : (s : List ℕ) (at : ℕ) → length s ≤ at → End ≡ decoded (drop at s)
 unfolding decoded
@@ -69,7 +70,7 @@ module _ (s : List ℕ) {at : ℕ} {d : Decoded} (g : Reached s at) (e : d ≡ d
       let m : size (chars (drop at s)) ≡ w + size (chars (drop (at + w) s)) = rw (char_chars s at e k, char_size s at e k) in
       record { room = char_room s at e k; same = omega (arith, g.same) }
 
-  pub reached_end : d ≡ End → Fine ≡ utf8_verdict s
+  pub reached_end : d ≡ End → fine ≡ utf8_verdict s
   unfolding utf8_verdict
   reached_end k =
       let f : size (chars (drop at s)) ≡ 0 = ap size (end_chars s at e k) in
@@ -77,7 +78,7 @@ module _ (s : List ℕ) {at : ℕ} {d : Decoded} (g : Reached s at) (e : d ≡ d
       let v : size (chars s) ≡ length s = omega (arith, g.same, g.room, length-drop at s) in
       sym (rw (eq-eqb (size (chars s)) (length s) v))
 
-  pub reached_ill : {x : Cause} → d ≡ Ill x → Refused (NotUtf8 at x) ≡ utf8_verdict s
+  pub reached_ill : {x : Cause} → d ≡ Ill x → Err (NotUtf8 at x) ≡ utf8_verdict s
   unfolding utf8_verdict
   reached_ill {x} k =
       let n : 0 < length (drop at s) = told (drop at s) (sym e ∙ k) in

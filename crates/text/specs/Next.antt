@@ -1,14 +1,13 @@
 -- The byte at the front of a text, if it lies from low to high; else why not.
-use Rattle.std.specs.Prelude.{ℕ, ◌≤◌, ◌<◌, List, [], ◌∷◌}
+use Rattle.std.specs.Prelude.{ℕ, ◌≤◌, ◌<◌, List, [], ◌∷◌, Result, Ok, Err}
 use Rattle.basics.specs.Choice.{pick}
 use Rattle.basics.specs.Tests.{within}
+use Rattle.refusal.specs.declared.Cause.{Cause}
 use Rattle.refusal.specs.declared.Cause.TheVariants.{Cut, Follow}
-use Rattle.text.specs.declared.Next.{Next}
-use Rattle.text.specs.declared.Next.TheVariants.{Byte, Other}
 
-unfoldable pub next : (low high : ℕ) → List ℕ → Next
-next low high [] = Other Cut
-next low high (b ∷ s) = pick (within low high b) (Byte b) (Other Follow)
+unfoldable pub next : (low high : ℕ) → List ℕ → Result ℕ Cause
+next low high [] = Err Cut
+next low high (b ∷ s) = pick (within low high b) (Ok b) (Err Follow)
 
 -- What the code's sums and differences need: a first byte of at least base, a second byte's range among the tails, a tail.
 pub record Lead (base a : ℕ) : Type 0 where

@@ -8,24 +8,18 @@ ghost use Rattle.text.specs.Next.{next, Lead, Second, Tail};
 ghost use Rattle.text.specs.Position.{starts_here};
 ghost use Rattle.text.specs.Verdicts.{too_long, utf8_verdict, text_verdict};
 
-use refusal::{Bad, Cause, Verdict};
+use refusal::{Bad, Cause};
 
 // A code point: the number type that stands for 000's `char`. Any number may be handed in where one is taken.
 pub type CodePoint = u32;
 
-// What stands at a position: a character and its bytes, the end of the text, or an ill-formed sequence and why it is one.
+// What stands at a position: a character and its bytes, the end of the text, or an ill-formed sequence and why it is one. Three cases, so that it is neither
+// an `Option` nor a `Result`; one inside the other would be no plainer.
 #[derive(Clone, Copy)]
 pub enum Decoded {
     Char(CodePoint, usize),
     End,
     Ill(Cause),
-}
-
-// A byte that had to lie in a range: it does, or there is none that does, and why.
-#[derive(Clone, Copy)]
-enum Next {
-    Byte(u32),
-    Other(Cause),
 }
 
 // A byte as a number.
@@ -35,21 +29,21 @@ pub fn wide(x: u8) -> u32
     x as u32
 }
 
-// The byte at a position, if it lies from low to high.
-fn next_byte(text: &[u8], at: usize, low: u32, high: u32) -> Next
+// The byte at a position, if it lies from low to high; else why not.
+fn next_byte(text: &[u8], at: usize, low: u32, high: u32) -> Result<u32, Cause>
     ensures { result ≡ next low high (drop at text.now) }
 {
     if text.len() <= at {
-        return Next::Other(Cause::Cut);
+        return Err(Cause::Cut);
     }
     let b = wide(text[at]);
     if b < low {
-        return Next::Other(Cause::Follow);
+        return Err(Cause::Follow);
     }
     if high < b {
-        return Next::Other(Cause::Follow);
+        return Err(Cause::Follow);
     }
-    Next::Byte(b)
+    Ok(b)
 }
 
 // The value of a sequence: the bits that its bytes carry.
@@ -80,8 +74,8 @@ fn decode_two(text: &[u8], at: usize, a: u32, low: u32, high: u32) -> Decoded
     ensures { result ≡ two a low high (drop at text.now) }
 {
     let b = match next_byte(text, at, low, high) {
-        Next::Byte(b) => b,
-        Next::Other(cause) => return Decoded::Ill(cause),
+        Ok(b) => b,
+        Err(cause) => return Decoded::Ill(cause),
     };
     Decoded::Char(join_two(a, b), 2)
 }
@@ -92,12 +86,12 @@ fn decode_three(text: &[u8], at: usize, a: u32, low: u32, high: u32) -> Decoded
     ensures { result ≡ three a low high (drop at text.now) }
 {
     let b = match next_byte(text, at, low, high) {
-        Next::Byte(b) => b,
-        Next::Other(cause) => return Decoded::Ill(cause),
+        Ok(b) => b,
+        Err(cause) => return Decoded::Ill(cause),
     };
     let c = match next_byte(text, at + 1, 0x80, 0xBF) {
-        Next::Byte(c) => c,
-        Next::Other(cause) => return Decoded::Ill(cause),
+        Ok(c) => c,
+        Err(cause) => return Decoded::Ill(cause),
     };
     Decoded::Char(join_three(a, b, c), 3)
 }
@@ -108,16 +102,16 @@ fn decode_four(text: &[u8], at: usize, a: u32, low: u32, high: u32) -> Decoded
     ensures { result ≡ four a low high (drop at text.now) }
 {
     let b = match next_byte(text, at, low, high) {
-        Next::Byte(b) => b,
-        Next::Other(cause) => return Decoded::Ill(cause),
+        Ok(b) => b,
+        Err(cause) => return Decoded::Ill(cause),
     };
     let c = match next_byte(text, at + 1, 0x80, 0xBF) {
-        Next::Byte(c) => c,
-        Next::Other(cause) => return Decoded::Ill(cause),
+        Ok(c) => c,
+        Err(cause) => return Decoded::Ill(cause),
     };
     let d = match next_byte(text, at + 2, 0x80, 0xBF) {
-        Next::Byte(d) => d,
-        Next::Other(cause) => return Decoded::Ill(cause),
+        Ok(d) => d,
+        Err(cause) => return Decoded::Ill(cause),
     };
     Decoded::Char(join_four(a, b, c, d), 4)
 }
@@ -174,13 +168,13 @@ pub fn starts_here(text: &[u8], at: usize) -> bool
 }
 
 // The check of a text's length: refusal 1.
-pub fn check_length(text: &[u8]) -> Verdict
+pub fn check_length(text: &[u8]) -> Result<(), Bad>
     ensures { result ≡ too_long text.now }
 {
     if 4294967295 < text.len() {
-        Verdict::Refused(Bad::TooLong)
+        Err(Bad::TooLong)
     } else {
-        Verdict::Fine
+        Ok(())
     }
 }
 
@@ -204,7 +198,7 @@ pub fn eight_ascii(text: &[u8], at: usize) -> bool
 }
 
 // The check of a text's bytes: refusal 2. Eight bytes of ASCII are taken in one turn, and else one character.
-pub fn check_utf8(text: &[u8]) -> Verdict
+pub fn check_utf8(text: &[u8]) -> Result<(), Bad>
     ensures { result ≡ utf8_verdict text.now }
 {
     let mut at = 0;
@@ -215,15 +209,16 @@ pub fn check_utf8(text: &[u8]) -> Verdict
         }
         match decode(text, at) {
             Decoded::Char(_, w) => at += w,
-            Decoded::End => return Verdict::Fine,
-            Decoded::Ill(cause) => return Verdict::Refused(Bad::NotUtf8(at, cause)),
+            Decoded::End => return Ok(()),
+            Decoded::Ill(cause) => return Err(Bad::NotUtf8(at, cause)),
         }
     }
 }
 
 // PUBLIC: whether a text is UTF-8 within the limit; if not, refusal 1, or 2 with the start of the first ill-formed sequence and its cause.
-pub fn check_text(text: &[u8]) -> Verdict
+pub fn check_text(text: &[u8]) -> Result<(), Bad>
     ensures { result ≡ text_verdict text.now }
 {
-    refusal::in_order(check_length(text), Verdict::Fine, check_utf8(text))
+    check_length(text)?;
+    check_utf8(text)
 }

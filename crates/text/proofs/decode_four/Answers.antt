@@ -3,14 +3,14 @@ use Rattle.text.proofs.Bytes.{four_ill_2, four_ill_3, four_ill_4, four_is, secon
 use borrow.Author.Rules.{rules}
 use Rattle.text.proofs.decode_four.Goals as goal
 
-pub returns-in-Other : goal.returns-in-Other
-returns-in-Other c = search four_ill_2
+pub returns-in-Err : goal.returns-in-Err
+returns-in-Err c = search four_ill_2
 
-pub returns-in-Other-next_byte : goal.returns-in-Other-next_byte
-returns-in-Other-next_byte c = search four_ill_3
+pub returns-in-Err-next_byte : goal.returns-in-Err-next_byte
+returns-in-Err-next_byte c = search four_ill_3
 
-pub returns-in-Other-next_byte-2 : goal.returns-in-Other-next_byte-2
-returns-in-Other-next_byte-2 c = search four_ill_4
+pub returns-in-Err-next_byte-2 : goal.returns-in-Err-next_byte-2
+returns-in-Err-next_byte-2 c = search four_ill_4
 
 pub join_four-requires : goal.join_four-requires
 join_four-requires c = search (rules, second_tail, next_tail)
