@@ -1,4 +1,5 @@
 -- The codes lose nothing: from the code of a kind and the start of its suffix the kind is read back.
+use Rattle.std.specs.Prelude.{Option, None, Some}
 use Prim.Native.Nat.{ℕ, zero, suc, ◌+◌, ◌*◌, ◌/◌, ◌%◌, ◌≤◌}
 use mathlib.Core.Path.{◌≡◌, refl, sym, ap, ◌∙◌}
 use mathlib.Core.Bool.{Bool, true, false, true≢false}
@@ -12,11 +13,9 @@ use native.Mathlib.Omega.{arith}
 use Rattle.basics.specs.Choice.{pick}
 use Rattle.basics.proofs.Choices.{yes_or_no}
 use Rattle.token.specs.declared.DocStyle.{DocStyle}
-use Rattle.token.specs.declared.DocStyle.TheVariants.{Plain, Outer, Inner}
+use Rattle.token.specs.declared.DocStyle.TheVariants.{Outer, Inner}
 use Rattle.token.specs.declared.Base.{Base}
 use Rattle.token.specs.declared.Base.TheVariants.{Binary, Octal, Decimal, Hexadecimal}
-use Rattle.token.specs.declared.HashCount.{HashCount}
-use Rattle.token.specs.declared.HashCount.TheVariants.{Of, NoCount}
 use Rattle.token.specs.declared.LiteralKind.{LiteralKind}
 use Rattle.token.specs.declared.LiteralKind.TheVariants.{Int, Float, Char, Byte, Str, ByteStr, CStr, RawStr, RawByteStr, RawCStr}
 use Rattle.token.specs.declared.TokenKind.{TokenKind}
@@ -27,8 +26,8 @@ use Rattle.kinds.specs.Codes.{bit, doc_code, base_code, hash_code, literal_numbe
 
 -- each part read back
 
-abbrev doc_at : ℕ → DocStyle
-doc_at n = get_or (Plain ∷ Outer ∷ Inner ∷ []) n Plain
+abbrev doc_at : ℕ → Option DocStyle
+doc_at n = get_or (None ∷ (Some Outer) ∷ (Some Inner) ∷ []) n None
 
 abbrev base_at : ℕ → Base
 base_at n = get_or (Binary ∷ Octal ∷ Decimal ∷ Hexadecimal ∷ []) n Binary
@@ -36,9 +35,9 @@ base_at n = get_or (Binary ∷ Octal ∷ Decimal ∷ Hexadecimal ∷ []) n Binar
 abbrev bit_at : ℕ → Bool
 bit_at n = eqb n 1
 
-abbrev hash_at : ℕ → HashCount
-hash_at zero = NoCount
-hash_at (suc n) = Of n
+abbrev hash_at : ℕ → Option ℕ
+hash_at zero = None
+hash_at (suc n) = Some n
 
 -- a literal by its number and what it holds
 abbrev literal_at : ℕ → ℕ → LiteralKind
@@ -73,14 +72,14 @@ bit_back : (b : Bool) → bit_at (bit b) ≡ b
 bit_back true = refl
 bit_back false = refl
 
-doc_back : (d : DocStyle) → doc_at (doc_code d) ≡ d
-doc_back Plain = refl
-doc_back Outer = refl
-doc_back Inner = refl
+doc_back : (d : Option DocStyle) → doc_at (doc_code d) ≡ d
+doc_back None = refl
+doc_back (Some Outer) = refl
+doc_back (Some Inner) = refl
 
-hash_back : (h : HashCount) → hash_at (hash_code h) ≡ h
-hash_back NoCount = refl
-hash_back (Of n) = rw add-one
+hash_back : (h : Option ℕ) → hash_at (hash_code h) ≡ h
+hash_back None = refl
+hash_back (Some n) = rw add-one
 
 base_bit_back : (b : Base) (e : Bool) → (base_at ((base_code b + 4 * bit e) % 4) ≡ b) × (bit_at ((base_code b + 4 * bit e) / 4) ≡ e)
 base_bit_back Binary false = (refl, refl)
@@ -129,12 +128,12 @@ apart n m g f = ⊎_elim (λ e. absurd (true≢false (sym g ∙ ap is_bare (eqb-
 
 shape_back : (s : Shape) → known s ≡ true → shape_at (shape_number s) (shape_detail s) (shape_suffix s) ≡ s
 shape_back (line d) g = ap line (doc_back d)
-shape_back (block Plain false) g = refl
-shape_back (block Plain true) g = refl
-shape_back (block Outer false) g = refl
-shape_back (block Outer true) g = refl
-shape_back (block Inner false) g = refl
-shape_back (block Inner true) g = refl
+shape_back (block None false) g = refl
+shape_back (block None true) g = refl
+shape_back (block (Some Outer) false) g = refl
+shape_back (block (Some Outer) true) g = refl
+shape_back (block (Some Inner) false) g = refl
+shape_back (block (Some Inner) true) g = refl
 shape_back white g = refl
 shape_back (front false false) g = refl
 shape_back (front false true) g = refl

@@ -1,11 +1,9 @@
 -- The kind of a token as one number: its number in the order of 000, and above it what it holds, but for the start of a suffix.
-use Rattle.std.specs.Prelude.{ℕ, ◌+◌, ◌*◌, Bool, true, false}
+use Rattle.std.specs.Prelude.{ℕ, ◌+◌, ◌*◌, Bool, true, false, Option, None, Some}
 use Rattle.token.specs.declared.DocStyle.{DocStyle}
-use Rattle.token.specs.declared.DocStyle.TheVariants.{Plain, Outer, Inner}
+use Rattle.token.specs.declared.DocStyle.TheVariants.{Outer, Inner}
 use Rattle.token.specs.declared.Base.{Base}
 use Rattle.token.specs.declared.Base.TheVariants.{Binary, Octal, Decimal, Hexadecimal}
-use Rattle.token.specs.declared.HashCount.{HashCount}
-use Rattle.token.specs.declared.HashCount.TheVariants.{Of, NoCount}
 use Rattle.token.specs.declared.LiteralKind.{LiteralKind}
 use Rattle.token.specs.declared.LiteralKind.TheVariants.{Int, Float, Char, Byte, Str, ByteStr, CStr, RawStr, RawByteStr, RawCStr}
 use Rattle.token.specs.declared.TokenKind.{TokenKind}
@@ -16,10 +14,10 @@ abbrev pub bit : Bool → ℕ
 bit false = 0
 bit true = 1
 
-abbrev pub doc_code : DocStyle → ℕ
-doc_code Plain = 0
-doc_code Outer = 1
-doc_code Inner = 2
+abbrev pub doc_code : Option DocStyle → ℕ
+doc_code None = 0
+doc_code (Some Outer) = 1
+doc_code (Some Inner) = 2
 
 abbrev pub base_code : Base → ℕ
 base_code Binary = 0
@@ -27,9 +25,9 @@ base_code Octal = 1
 base_code Decimal = 2
 base_code Hexadecimal = 3
 
-abbrev pub hash_code : HashCount → ℕ
-hash_code NoCount = 0
-hash_code (Of n) = n + 1
+abbrev pub hash_code : Option ℕ → ℕ
+hash_code None = 0
+hash_code (Some n) = n + 1
 
 abbrev pub literal_number : LiteralKind → ℕ
 literal_number (Int b e) = 0

@@ -4,65 +4,43 @@
 
 ghost use Rattle.std.specs.Prelude.{◌≡◌};
 ghost use Rattle.token.specs.Kinds.{kind_number};
-ghost use Rattle.token.specs.Trivia.{is_plain, is_trivia};
-ghost use Rattle.token.specs.Broken.{no_count, broken_literal, is_broken};
-ghost use Rattle.kinds.specs.Codes.{bit, doc_code, base_code, hash_code, literal_number, literal_detail, literal_code, detail, kind_code, suffix_of};
+ghost use Rattle.token.specs.Trivia.{is_trivia};
+ghost use Rattle.token.specs.Broken.{broken_literal, is_broken};
+ghost use Rattle.kinds.specs.Codes.{doc_code, base_code, hash_code, literal_number, literal_detail, literal_code, detail, kind_code, suffix_of};
 ghost use Rattle.kinds.specs.Coded.{Coded};
 
-use token::{Base, DocStyle, HashCount, LiteralKind, TokenKind};
-
-// Whether a comment is not a doc comment.
-fn is_plain(style: DocStyle) -> bool
-    ensures { result ≡ is_plain style }
-{
-    match style {
-        DocStyle::Outer => false,
-        DocStyle::Inner => false,
-        DocStyle::Plain => true,
-    }
-}
+use token::{Base, DocStyle, LiteralKind, TokenKind};
 
 // Whether a token is trivia: whitespace, or a comment that is not a doc comment.
 pub fn is_trivia(kind: TokenKind) -> bool
     ensures { result ≡ is_trivia kind }
 {
-    match kind {
-        TokenKind::LineComment { doc_style } => is_plain(doc_style),
-        TokenKind::BlockComment {
-            doc_style,
-            terminated: _,
-        } => is_plain(doc_style),
-        TokenKind::Whitespace => true,
-        _ => false,
-    }
-}
-
-// Whether a raw string has no hash count.
-fn no_count(hashes: HashCount) -> bool
-    ensures { result ≡ no_count hashes }
-{
-    match hashes {
-        HashCount::Of(_) => false,
-        HashCount::NoCount => true,
-    }
+    matches!(
+        kind,
+        TokenKind::Whitespace
+            | TokenKind::LineComment { doc_style: None }
+            | TokenKind::BlockComment {
+                doc_style: None,
+                ..
+            }
+    )
 }
 
 // Whether a literal is broken: it does not end, or it has no hash count.
 fn is_broken_literal(kind: LiteralKind) -> bool
     ensures { result ≡ broken_literal kind }
 {
-    match kind {
-        LiteralKind::Int { .. } => false,
-        LiteralKind::Float { .. } => false,
-        LiteralKind::Char { terminated } => !terminated,
-        LiteralKind::Byte { terminated } => !terminated,
-        LiteralKind::Str { terminated } => !terminated,
-        LiteralKind::ByteStr { terminated } => !terminated,
-        LiteralKind::CStr { terminated } => !terminated,
-        LiteralKind::RawStr { n_hashes } => no_count(n_hashes),
-        LiteralKind::RawByteStr { n_hashes } => no_count(n_hashes),
-        LiteralKind::RawCStr { n_hashes } => no_count(n_hashes),
-    }
+    matches!(
+        kind,
+        LiteralKind::Char { terminated: false }
+            | LiteralKind::Byte { terminated: false }
+            | LiteralKind::Str { terminated: false }
+            | LiteralKind::ByteStr { terminated: false }
+            | LiteralKind::CStr { terminated: false }
+            | LiteralKind::RawStr { n_hashes: None }
+            | LiteralKind::RawByteStr { n_hashes: None }
+            | LiteralKind::RawCStr { n_hashes: None }
+    )
 }
 
 // Whether a token is broken: a broken literal, or a block comment that does not end.
@@ -70,31 +48,20 @@ pub fn is_broken(kind: TokenKind) -> bool
     ensures { result ≡ is_broken kind }
 {
     match kind {
-        TokenKind::BlockComment {
-            doc_style: _,
-            terminated,
-        } => !terminated,
-        TokenKind::Literal {
-            kind: literal,
-            suffix_start: _,
-        } => is_broken_literal(literal),
+        TokenKind::BlockComment { terminated, .. } => !terminated,
+        TokenKind::Literal { kind: literal, .. } => is_broken_literal(literal),
         _ => false,
     }
 }
 
-fn bit_of(b: bool) -> u32
-    ensures { Coded 1 (bit b) result }
-{
-    if b { 1 } else { 0 }
-}
-
-fn doc_code(doc_style: DocStyle) -> u32
+// The codes, here and below, are the numbers that the C interface and the stored answers have: each is a table of its own, one arm a case.
+fn doc_code(doc_style: Option<DocStyle>) -> u32
     ensures { Coded 2 (doc_code doc_style) result }
 {
     match doc_style {
-        DocStyle::Plain => 0,
-        DocStyle::Outer => 1,
-        DocStyle::Inner => 2,
+        None => 0,
+        Some(DocStyle::Outer) => 1,
+        Some(DocStyle::Inner) => 2,
     }
 }
 
@@ -109,12 +76,12 @@ fn base_code(base: Base) -> u32
     }
 }
 
-fn hash_code(n_hashes: HashCount) -> u32
+fn hash_code(n_hashes: Option<u8>) -> u32
     ensures { Coded 256 (hash_code n_hashes) result }
 {
     match n_hashes {
-        HashCount::NoCount => 0,
-        HashCount::Of(n) => n as u32 + 1,
+        None => 0,
+        Some(n) => u32::from(n) + 1,
     }
 }
 
@@ -122,22 +89,16 @@ fn literal_number(kind: LiteralKind) -> u32
     ensures { Coded 9 (literal_number kind) result }
 {
     match kind {
-        LiteralKind::Int {
-            base: _,
-            empty_int: _,
-        } => 0,
-        LiteralKind::Float {
-            base: _,
-            empty_exponent: _,
-        } => 1,
-        LiteralKind::Char { terminated: _ } => 2,
-        LiteralKind::Byte { terminated: _ } => 3,
-        LiteralKind::Str { terminated: _ } => 4,
-        LiteralKind::ByteStr { terminated: _ } => 5,
-        LiteralKind::CStr { terminated: _ } => 6,
-        LiteralKind::RawStr { n_hashes: _ } => 7,
-        LiteralKind::RawByteStr { n_hashes: _ } => 8,
-        LiteralKind::RawCStr { n_hashes: _ } => 9,
+        LiteralKind::Int { .. } => 0,
+        LiteralKind::Float { .. } => 1,
+        LiteralKind::Char { .. } => 2,
+        LiteralKind::Byte { .. } => 3,
+        LiteralKind::Str { .. } => 4,
+        LiteralKind::ByteStr { .. } => 5,
+        LiteralKind::CStr { .. } => 6,
+        LiteralKind::RawStr { .. } => 7,
+        LiteralKind::RawByteStr { .. } => 8,
+        LiteralKind::RawCStr { .. } => 9,
     }
 }
 
@@ -145,19 +106,22 @@ fn literal_detail(kind: LiteralKind) -> u32
     ensures { Coded 256 (literal_detail kind) result }
 {
     match kind {
-        LiteralKind::Int { base, empty_int } => base_code(base) + 4 * bit_of(empty_int),
-        LiteralKind::Float {
+        LiteralKind::Int {
             base,
-            empty_exponent,
-        } => base_code(base) + 4 * bit_of(empty_exponent),
-        LiteralKind::Char { terminated } => bit_of(terminated),
-        LiteralKind::Byte { terminated } => bit_of(terminated),
-        LiteralKind::Str { terminated } => bit_of(terminated),
-        LiteralKind::ByteStr { terminated } => bit_of(terminated),
-        LiteralKind::CStr { terminated } => bit_of(terminated),
-        LiteralKind::RawStr { n_hashes } => hash_code(n_hashes),
-        LiteralKind::RawByteStr { n_hashes } => hash_code(n_hashes),
-        LiteralKind::RawCStr { n_hashes } => hash_code(n_hashes),
+            empty_int: empty,
+        }
+        | LiteralKind::Float {
+            base,
+            empty_exponent: empty,
+        } => base_code(base) + 4 * u32::from(empty),
+        LiteralKind::Char { terminated }
+        | LiteralKind::Byte { terminated }
+        | LiteralKind::Str { terminated }
+        | LiteralKind::ByteStr { terminated }
+        | LiteralKind::CStr { terminated } => u32::from(terminated),
+        LiteralKind::RawStr { n_hashes }
+        | LiteralKind::RawByteStr { n_hashes }
+        | LiteralKind::RawCStr { n_hashes } => hash_code(n_hashes),
     }
 }
 
@@ -176,16 +140,13 @@ fn kind_detail(kind: TokenKind) -> u32
         TokenKind::BlockComment {
             doc_style,
             terminated,
-        } => doc_code(doc_style) + 4 * bit_of(terminated),
+        } => doc_code(doc_style) + 4 * u32::from(terminated),
         TokenKind::Frontmatter {
             has_invalid_preceding_whitespace,
             invalid_infostring,
-        } => bit_of(has_invalid_preceding_whitespace) + 2 * bit_of(invalid_infostring),
-        TokenKind::Literal {
-            kind,
-            suffix_start: _,
-        } => literal_code(kind),
-        TokenKind::Lifetime { starts_with_number } => bit_of(starts_with_number),
+        } => u32::from(has_invalid_preceding_whitespace) + 2 * u32::from(invalid_infostring),
+        TokenKind::Literal { kind, .. } => literal_code(kind),
+        TokenKind::Lifetime { starts_with_number } => u32::from(starts_with_number),
         _ => 0,
     }
 }
@@ -195,16 +156,10 @@ pub fn kind_number(kind: TokenKind) -> u32
     ensures { Coded 42 (kind_number kind) result }
 {
     match kind {
-        TokenKind::LineComment { doc_style: _ } => 0,
-        TokenKind::BlockComment {
-            doc_style: _,
-            terminated: _,
-        } => 1,
+        TokenKind::LineComment { .. } => 0,
+        TokenKind::BlockComment { .. } => 1,
         TokenKind::Whitespace => 2,
-        TokenKind::Frontmatter {
-            has_invalid_preceding_whitespace: _,
-            invalid_infostring: _,
-        } => 3,
+        TokenKind::Frontmatter { .. } => 3,
         TokenKind::Ident => 4,
         TokenKind::InvalidIdent => 5,
         TokenKind::RawIdent => 6,
@@ -213,13 +168,8 @@ pub fn kind_number(kind: TokenKind) -> u32
         TokenKind::UnknownPrefixLifetime => 9,
         TokenKind::RawLifetime => 10,
         TokenKind::GuardedStrPrefix => 11,
-        TokenKind::Literal {
-            kind: _,
-            suffix_start: _,
-        } => 12,
-        TokenKind::Lifetime {
-            starts_with_number: _,
-        } => 13,
+        TokenKind::Literal { .. } => 12,
+        TokenKind::Lifetime { .. } => 13,
         TokenKind::Semi => 14,
         TokenKind::Comma => 15,
         TokenKind::Dot => 16,
@@ -263,12 +213,8 @@ pub fn kind_code(kind: TokenKind) -> u32
 pub fn suffix_of(kind: TokenKind) -> u32
     ensures { result ≡ suffix_of kind }
 {
-    let TokenKind::Literal {
-        kind: _,
-        suffix_start,
-    } = kind
-    else {
-        return 0;
-    };
-    suffix_start
+    match kind {
+        TokenKind::Literal { suffix_start, .. } => suffix_start,
+        _ => 0,
+    }
 }
