@@ -1,4 +1,5 @@
 -- Each rule of the book is sound: a term for each, which mirrors it.
+use Rattle.std.specs.Prelude.{Option, None}
 use Prim.Native.Nat.{ℕ, zero, suc, ◌≤◌}
 use mathlib.Core.Path.{◌≡◌, refl, sym, ap, ◌∙◌}
 use mathlib.Core.List.{List}
@@ -13,8 +14,6 @@ use Rattle.classes.specs.Whitespace.{is_whitespace}
 use Rattle.eaters.specs.Eat.{Eater, give, eat, ◌>>=◌, ◌>>◌, choose}
 use Rattle.eaters.specs.Scan.{Turn, taking, break_off, close, go, skip}
 use Rattle.token.specs.declared.Base.{Base}
-use Rattle.token.specs.declared.HashCount.{HashCount}
-use Rattle.token.specs.declared.HashCount.TheVariants.{NoCount}
 use Rattle.token.specs.declared.LiteralKind.{LiteralKind}
 use Rattle.token.specs.declared.LiteralKind.TheVariants.{Char, Byte, Str, ByteStr, CStr, RawStr, RawByteStr, RawCStr}
 use Rattle.token.specs.declared.TokenKind.{TokenKind}
@@ -84,8 +83,8 @@ single_ends d c e f h =
 abbrev Marks : (Bool → LiteralKind) → Type 0
 Marks mk = (b : Bool) → broken_literal (mk b) ≡ not b
 
-abbrev Counts : (HashCount → LiteralKind) → Type 0
-Counts mk = broken_literal (mk NoCount) ≡ true
+abbrev Counts : (Option ℕ → LiteralKind) → Type 0
+Counts mk = broken_literal (mk None) ≡ true
 
 abbrev broken_body : Body → Bool
 broken_body b = broken_literal b.kind
@@ -141,7 +140,7 @@ module _ (asked : Bool) where
       two : (cs : List ℕ) → found ((eat 2 >> give true) cs).said ≡ true → 1 ≤ ((eat 2 >> give true) cs).took
       two cs k = unfold ◌>>=◌ eat give in (omega arith)
 
-  raw_sound : (mk : HashCount → LiteralKind) → Counts mk → Sound 0 (whole broken_body) (raw_string mk)
+  raw_sound : (mk : Option ℕ → LiteralKind) → Counts mk → Sound 0 (whole broken_body) (raw_string mk)
   raw_sound mk m =
       sound_then (sound_while (is '#') refl)
       (λ h. sound_if_eat (is 'double') refl refl
@@ -245,7 +244,7 @@ module _ (asked : Bool) where
       k_sound : Sound 0 (whole is_broken) (after_k L)
       k_sound = sound_if_two (is '#') (starting L) (quiet _ refl) (starts_quiet is_broken) (hashed_sound _) word_sound
 
-      c_sound : (mk : Bool → LiteralKind) (raw : HashCount → LiteralKind) → Marks mk → Counts raw → Sound 0 (whole is_broken) (after_c L mk raw)
+      c_sound : (mk : Bool → LiteralKind) (raw : Option ℕ → LiteralKind) → Marks mk → Counts raw → Sound 0 (whole is_broken) (after_c L mk raw)
       c_sound mk raw m r =
           sound_if_eat (is 'double') refl refl (literal_sound 2 (double_sound mk m))
           (sound_if_two (is 'r') hash_or_quote (quiet _ refl) (quiet _ refl)

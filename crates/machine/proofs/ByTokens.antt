@@ -1,5 +1,6 @@
 -- The result of a text by its tokens, from any place on (`key_from`), and from inside a token of which some characters were read (`keep`, `skip`, `close`).
 -- The book's rule of tokens alone is spoken of, no mode of the machine.
+use Rattle.std.specs.Prelude.{Option}
 use Prim.Native.Nat.{ℕ, zero, suc, ◌+◌}
 use mathlib.Core.Path.{◌≡◌, refl, sym, ap}
 use mathlib.Core.List.{List, [], ◌∷◌, ◌++◌, append_assoc}
@@ -8,7 +9,6 @@ use lib.ListN.{take}
 use Rattle.basics.specs.Choice.{pick}
 use Rattle.text.specs.Chars.{width}
 use Rattle.eaters.specs.Eat.{Got}
-use Rattle.token.specs.declared.HashCount.{HashCount}
 use Rattle.token.specs.declared.LiteralKind.{LiteralKind}
 use Rattle.token.specs.declared.TokenKind.{TokenKind}
 use Rattle.token.specs.Names.{'newline'}
@@ -32,7 +32,7 @@ whole k = not (is_broken k)
 abbrev pub whole_literal : LiteralKind → Bool
 whole_literal k = not (broken_literal k)
 
-abbrev pub has_count : HashCount → Bool
+abbrev pub has_count : Option ℕ → Bool
 has_count h = not (broken.no_count h)
 
 -- what is written in two steps is written in one

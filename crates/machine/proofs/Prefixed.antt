@@ -1,4 +1,5 @@
 -- After a letter that may be a prefix, and after a hash: modes GotR, GotRHash, GotK, GotNameHash, GotHash, GotB, GotC, GotBR.
+use Rattle.std.specs.Prelude.{Option}
 use Prim.Native.Nat.{ℕ, suc, ◌+◌}
 use mathlib.Core.Path.{◌≡◌, refl, sym, ap, ◌∙◌}
 use mathlib.Core.List.{List, ◌∷◌}
@@ -11,7 +12,6 @@ use Rattle.classes.specs.Identifiers.{letter, id_continue}
 use Rattle.classes.specs.Emoji.{emoji_char}
 use Rattle.eaters.specs.Eat.{Got, give, eat, take_while, ◌>>=◌}
 use Rattle.eaters.specs.Look.{if_at, if_two}
-use Rattle.token.specs.declared.HashCount.{HashCount}
 use Rattle.token.specs.declared.LiteralKind.{LiteralKind}
 use Rattle.token.specs.declared.LiteralKind.TheVariants.{Byte, ByteStr, RawStr, RawByteStr}
 use Rattle.token.specs.declared.TokenKind.{TokenKind}
@@ -77,11 +77,11 @@ module _ (L : Lists) where
     k_else e = ap judged (two_no (is '#') (starting L) _ _ c cs e)
 
     -- after b or c; mk and raw: the literals with this prefix
-    c_string : (mk : Bool → LiteralKind) (raw : HashCount → LiteralKind) → ((b : Bool) → whole_literal (mk b) ≡ b) → is 'double' c ≡ true → judged (after_c L mk raw (c ∷ cs)) ≡ more (string_rest L cs)
+    c_string : (mk : Bool → LiteralKind) (raw : Option ℕ → LiteralKind) → ((b : Bool) → whole_literal (mk b) ≡ b) → is 'double' c ≡ true → judged (after_c L mk raw (c ∷ cs)) ≡ more (string_rest L cs)
     unfolding if_at ◌>>=◌ eat
     c_string mk raw w e = rw (eqb-true c 'double' e, one_add) (ap more (string_view L 2 mk cs w))
 
-    c_r : (mk : Bool → LiteralKind) (raw : HashCount → LiteralKind) → ((h : HashCount) → whole_literal (raw h) ≡ has_count h) → is 'r' c ≡ true → judged (after_c L mk raw (c ∷ cs)) ≡ more (br_rest L cs)
+    c_r : (mk : Bool → LiteralKind) (raw : Option ℕ → LiteralKind) → ((h : Option ℕ) → whole_literal (raw h) ≡ has_count h) → is 'r' c ≡ true → judged (after_c L mk raw (c ∷ cs)) ≡ more (br_rest L cs)
     unfolding if_two if_at ◌>>=◌ eat
     c_r mk raw w e = rw (eqb-true c 'r' e) (go (hash_or_quote (get_or cs 0 0)) refl)
       where
@@ -89,7 +89,7 @@ module _ (L : Lists) where
         go true f = rw (f, one_add) (ap more (raw_view L raw w 2 cs))
         go false f = rw f (ident_more L 'r' cs (unfold id_continue letter in refl))
 
-    c_else : (mk : Bool → LiteralKind) (raw : HashCount → LiteralKind) → is 'double' c ≡ false → is 'r' c ≡ false → judged (after_c L mk raw (c ∷ cs)) ≡ judged (ident_or_unknown_prefix L (c ∷ cs))
+    c_else : (mk : Bool → LiteralKind) (raw : Option ℕ → LiteralKind) → is 'double' c ≡ false → is 'r' c ≡ false → judged (after_c L mk raw (c ∷ cs)) ≡ judged (ident_or_unknown_prefix L (c ∷ cs))
     c_else mk raw e f = ap judged (if_no (is 'double') _ _ c cs e ∙ two_no (is 'r') hash_or_quote _ _ c cs f)
 
     -- after b
@@ -130,7 +130,7 @@ module _ (L : Lists) where
     pub at_name_hash : Keeps L st p c cs (step L st p GotNameHash c) (name_hash_rest L (c ∷ cs))
     at_name_hash = kept_or (starting L c) InName (name_rest L cs) refl at_hash
 
-    pub at_c : (mk : Bool → LiteralKind) (raw : HashCount → LiteralKind) → ((b : Bool) → whole_literal (mk b) ≡ b) → ((h : HashCount) → whole_literal (raw h) ≡ has_count h) → Keeps L st p c cs (step L st p GotC c) (judged (after_c L mk raw (c ∷ cs)))
+    pub at_c : (mk : Bool → LiteralKind) (raw : Option ℕ → LiteralKind) → ((b : Bool) → whole_literal (mk b) ≡ b) → ((h : Option ℕ) → whole_literal (raw h) ≡ has_count h) → Keeps L st p c cs (step L st p GotC c) (judged (after_c L mk raw (c ∷ cs)))
     at_c mk raw w v =
         cases (is 'double' c) (λ e. kept InString (string_rest L cs) refl (c_string c cs mk raw w e))
         (λ e. cases (is 'r' c) (λ f. kept GotBR (br_rest L cs) refl (c_r c cs mk raw v f)) (λ f. seen (at_ident_lem L st p c cs) (c_else c cs mk raw e f)))

@@ -1,4 +1,5 @@
 -- What the book's rule of raw strings takes is what is to come after its prefix: for the modes RawHashes, GotRHash and GotBR, in which one begins.
+use Rattle.std.specs.Prelude.{Option, None, Some}
 use Prim.Native.Nat.{ℕ, suc, ◌+◌}
 use mathlib.Core.Path.{◌≡◌, refl, ap, ◌∙◌}
 use mathlib.Core.List.{List, [], ◌∷◌}
@@ -12,8 +13,6 @@ use Rattle.basics.proofs.Sums.{zero_plus}
 use Rattle.eaters.specs.Eat.{Got, give, eat, eat_any, take_while, while, ◌>>=◌}
 use Rattle.eaters.specs.Look.{if_at}
 use Rattle.eaters.specs.Scan.{first_with}
-use Rattle.token.specs.declared.HashCount.{HashCount}
-use Rattle.token.specs.declared.HashCount.TheVariants.{Of, NoCount}
 use Rattle.token.specs.declared.LiteralKind.{LiteralKind}
 use Rattle.token.specs.Names.{is, 'double', '#'}
 use Rattle.token.specs.Lists.{Lists}
@@ -55,7 +54,7 @@ module _ (L : Lists) where
       go false e true f i = rw (e, f, zero_plus, zero_plus) (lit_more L (capped n (first_with 'double' '#' n cs)) c cs)
       go false e false f i = rw (e, f)
 
-  module _ (mk : HashCount → LiteralKind) (w : (h : HashCount) → whole_literal (mk h) ≡ has_count h) where
+  module _ (mk : Option ℕ → LiteralKind) (w : (h : Option ℕ) → whole_literal (mk h) ≡ has_count h) where
     -- whether a raw string ended, by its kind
     suffixed_so : (found : Bool) (n : ℕ) → (pick found (counted mk n) (uncounted mk)).suffixed ≡ found
     suffixed_so true n = refl
@@ -75,8 +74,8 @@ module _ (L : Lists) where
         go false e = rw (e, add-zero (length (take 1 (drop h cs))))
 
     of_kind : (found : Bool) (n : ℕ) → whole_literal (pick found (counted mk n) (uncounted mk)).kind ≡ (pick found (counted mk n) (uncounted mk)).suffixed
-    of_kind true n = w (Of n)
-    of_kind false n = w NoCount
+    of_kind true n = w (Some n)
+    of_kind false n = w None
 
     raw_whole : (cs : List ℕ) → whole_literal (raw_string mk cs).said.kind ≡ (raw_string mk cs).said.suffixed
     unfolding ◌>>=◌ while give if_at eat eat_any
@@ -87,7 +86,7 @@ module _ (L : Lists) where
 
         go : (s : Bool) → is 'double' (get_or (drop h cs) 0 0) ≡ s → whole_literal (raw_string mk cs).said.kind ≡ (raw_string mk cs).said.suffixed
         go true e = rw e (of_kind (and (first_with 'double' '#' h (drop 1 (drop h cs))).said (ltb h 256)) h)
-        go false e = rw e (w NoCount)
+        go false e = rw e (w None)
 
     -- A RAW STRING with its suffix
     pub raw_view : (k : ℕ) (cs : List ℕ) → judged (literal L k (raw_string mk) cs) ≡ hashes_rest L 0 cs
