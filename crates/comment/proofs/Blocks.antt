@@ -14,8 +14,7 @@ use Rattle.eaters.specs.Scan.{go, skip, deeper, shallower, scan}
 use Rattle.token.specs.Names.{is, '*', '/'}
 use Rattle.token.specs.Comments.{block_turn}
 use Rattle.cursor.specs.declared.Cursor.{Cursor}
-use Rattle.cursor.specs.declared.Step.{Step}
-use Rattle.cursor.specs.declared.Step.TheVariants.{Got as Char, Over}
+use Rattle.std.specs.Prelude.{Option, None, Some}
 use Rattle.cursor.specs.Cursors.{rest, Here, Seen}
 use Rattle.cursor.specs.Moved.{Moved}
 use Rattle.cursor.specs.Ran.{Ran}
@@ -71,11 +70,11 @@ over_at : (d : ℕ) {s : List ℕ} {a b : Cursor} → 1 ≤ d → Inside block_t
 over_at zero h i e = absurd (omega arith)
 over_at (suc d) h i e = inside_over block_turn i e
 
-pub end_in : {s : List ℕ} {a b : Cursor} {d : ℕ} {r : Step} → r ≡ Over → Seen s b r → Deep s a b d → Ran (scan block_turn 0 1) s a b false
+pub end_in : {s : List ℕ} {a b : Cursor} {d : ℕ} {r : Option (ℕ × Cursor)} → r ≡ None → Seen s b r → Deep s a b d → Ran (scan block_turn 0 1) s a b false
 end_in {d = d} x h i = over_at d i.some i.inside (end_at x h)
 
 -- THE TURNS, in the facts of the code: the peek's answer and promise, and the character after it
-module _ {s : List ℕ} {a b : Cursor} {d c : ℕ} {n : Cursor} {r : Step} (x : r ≡ Char c n) (h : Seen s b r) (i : Deep s a b d) where
+module _ {s : List ℕ} {a b : Cursor} {d c : ℕ} {n : Cursor} {r : Option (ℕ × Cursor)} (x : r ≡ Some (c, n)) (h : Seen s b r) (i : Deep s a b d) where
   pub deeper_fits : length s * 1 < 2 ^ 63 → Fits w64 (d + 1)
   deeper_fits g = record { fits = omega (arith, ap length (char_at x h).chars, i.few, rest_short s a) }
 

@@ -2,6 +2,7 @@
 use Prim.Native.Nat.{ℕ, zero, suc, ◌≤◌, zero-le, suc-le-suc}
 use mathlib.Core.Path.{◌≡◌, refl, sym, ap, ◌∙◌}
 use mathlib.Core.Bool.{Bool}
+use Rattle.std.specs.Prelude.{Option}
 use mathlib.Core.List.{List, [], ◌∷◌}
 use mathlib.Core.Logic.{◌⊎◌, inl, inr}
 use lib.ListN.{length, get_or, drop}
@@ -29,7 +30,7 @@ use Rattle.comment.proofs.Docs.{line_style, block_style}
 pub whitespace_in : {s : List ℕ} {a b : Cursor} → Moved s a b (left (while is_whitespace) (rest s a)) → Ran rule.whitespace s a b Whitespace
 whitespace_in {s} {a} {b} m = ran_then (ran_while is_whitespace m) (ran_give Whitespace s b)
 
-pub line_in : {s : List ℕ} {a b : Cursor} {d : DocStyle} → d ≡ line_doc (rest s a) → Moved s a b (left (while in_line) (rest s a)) → Ran line_comment s a b (LineComment d)
+pub line_in : {s : List ℕ} {a b : Cursor} {d : Option DocStyle} → d ≡ line_doc (rest s a) → Moved s a b (left (while in_line) (rest s a)) → Ran line_comment s a b (LineComment d)
 line_in {s} {a} {b} {d} e m = ran_word (ran_say (λ (t : List ℕ). LineComment (line_doc t)) (ran_while in_line m)) (ap LineComment (e ∙ sym (line_style (rest s a))))
 
 -- a block comment takes two characters, or all that there are
@@ -61,9 +62,9 @@ block_long (c ∷ d ∷ ds) = by_block 0 c d (λ (u : Turn). Long (c ∷ d ∷ d
 abbrev block : Read Bool → TokenKind
 block r = BlockComment (block_doc r.text) r.said
 
-pub block_in : {s : List ℕ} {a b : Cursor} {d : DocStyle} {t : Bool} → d ≡ block_doc (rest s a) → Ran (scan block_turn 0 1) s a b t → Ran block_comment s a b (BlockComment d t)
+pub block_in : {s : List ℕ} {a b : Cursor} {d : Option DocStyle} {t : Bool} → d ≡ block_doc (rest s a) → Ran (scan block_turn 0 1) s a b t → Ran block_comment s a b (BlockComment d t)
 block_in {s} {a} {b} {d} {t} e r =
-    ran_word (ran_say block (ran_texted r)) (ap (λ (k : DocStyle). BlockComment k t) (e ∙ sym (block_style (rest s a) (scan block_turn 0 1 (rest s a)).took (block_long (rest s a)))))
+    ran_word (ran_say block (ran_texted r)) (ap (λ (k : Option DocStyle). BlockComment k t) (e ∙ sym (block_style (rest s a) (scan block_turn 0 1 (rest s a)).took (block_long (rest s a)))))
 
 -- after a slash
 module _ {s : List ℕ} {a b : Cursor} {c : ℕ} (e : c ≡ get_or (rest s a) 0 0) where

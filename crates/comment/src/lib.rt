@@ -12,26 +12,14 @@ ghost use Rattle.cursor.specs.Cursors.{rest};
 ghost use Rattle.cursor.specs.Moved.{Moved};
 ghost use Rattle.cursor.specs.Ran.{left, Ran};
 
-use cursor::{Cursor, Ended, Lexed, Step};
+use cursor::{Cursor, Ended, Lexed};
 use token::{DocStyle, TokenKind};
 
 // Past the whitespace at a cursor.
 fn eat_whitespace(text: &[u8], from: Cursor) -> Cursor
     ensures { Moved text.now from result (left (while is_whitespace) (rest text.now from)) }
 {
-    let mut cur = from;
-    loop {
-        match cur.peek(text) {
-            Step::Got(c, next) => {
-                if classes::is_whitespace(c) {
-                    cur = next;
-                } else {
-                    return cur;
-                }
-            }
-            Step::Over => return cur,
-        }
-    }
+    from.eat_while(text, classes::is_whitespace)
 }
 
 // The rest of a whitespace token.
@@ -48,35 +36,18 @@ pub fn whitespace(text: &[u8], from: Cursor) -> Lexed
 pub fn eat_line(text: &[u8], from: Cursor) -> Cursor
     ensures { Moved text.now from result (left (while in_line) (rest text.now from)) }
 {
-    let mut cur = from;
-    loop {
-        match cur.peek(text) {
-            Step::Got(c, next) => {
-                if c == 0x0A {
-                    return cur;
-                }
-                cur = next;
-            }
-            Step::Over => return cur,
-        }
-    }
+    from.eat_while(text, |c| c != 0x0A)
 }
 
 // What the characters after `//` make of a line comment.
-fn line_doc(text: &[u8], from: Cursor) -> DocStyle
+fn line_doc(text: &[u8], from: Cursor) -> Option<DocStyle>
     ensures { result ≡ line_doc (rest text.now from) }
 {
-    let c = from.first(text);
-    if c == 0x21 {
-        return DocStyle::Inner;
+    match from.first(text) {
+        0x21 => Some(DocStyle::Inner),
+        0x2F if from.second(text) != 0x2F => Some(DocStyle::Outer),
+        _ => None,
     }
-    if c == 0x2F {
-        if from.second(text) == 0x2F {
-            return DocStyle::Plain;
-        }
-        return DocStyle::Outer;
-    }
-    DocStyle::Plain
 }
 
 // A line comment, after its two slashes.
@@ -92,24 +63,14 @@ fn line_comment(text: &[u8], from: Cursor) -> Lexed
 }
 
 // What the characters after `/*` make of a block comment.
-fn block_doc(text: &[u8], from: Cursor) -> DocStyle
+fn block_doc(text: &[u8], from: Cursor) -> Option<DocStyle>
     ensures { result ≡ block_doc (rest text.now from) }
 {
-    let c = from.first(text);
-    if c == 0x21 {
-        return DocStyle::Inner;
+    match from.first(text) {
+        0x21 => Some(DocStyle::Inner),
+        0x2A if !matches!(from.second(text), 0x2A | 0x2F) => Some(DocStyle::Outer),
+        _ => None,
     }
-    if c == 0x2A {
-        let d = from.second(text);
-        if d == 0x2A {
-            return DocStyle::Plain;
-        }
-        if d == 0x2F {
-            return DocStyle::Plain;
-        }
-        return DocStyle::Outer;
-    }
-    DocStyle::Plain
 }
 
 // The rest of a block comment: depth 1 after `/*`, one more at each `/*`, one less at each `*/`.
@@ -118,13 +79,7 @@ fn block_rest(text: &[u8], from: Cursor) -> Ended
 {
     let mut cur = from;
     let mut depth: usize = 1;
-    loop {
-        let Step::Got(c, next) = cur.peek(text) else {
-            return Ended {
-                next: cur,
-                terminated: false,
-            };
-        };
+    while let Some((c, next)) = cur.peek(text) {
         cur = next;
         if c == 0x2F {
             if cur.first(text) == 0x2A {
@@ -143,6 +98,10 @@ fn block_rest(text: &[u8], from: Cursor) -> Ended
                 depth -= 1;
             }
         }
+    }
+    Ended {
+        next: cur,
+        terminated: false,
     }
 }
 

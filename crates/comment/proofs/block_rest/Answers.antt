@@ -6,8 +6,8 @@ use Rattle.comment.proofs.block_rest.Goals as goal
 pub loop-c-init : goal.loop-c-init
 loop-c-init c = deep_start _ _
 
-pub returns-in_default : goal.returns-in_default
-returns-in_default c = search end_in
+pub returns : goal.returns
+returns c = search end_in
 
 pub overflow_add-depth : goal.overflow_add-depth
 overflow_add-depth c = search deeper_fits
