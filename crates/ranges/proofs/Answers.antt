@@ -1,7 +1,7 @@
 -- Document 01, "Nothing left open": two answers that a promise allows for the same arguments are the same answer.
 use mathlib.Core.Path.{◌≡◌, sym, ◌∙◌}
 use mathlib.Core.Bool.{Bool}
-use Rattle.refusal.specs.declared.Verdict.{Verdict}
+use Rattle.refusal.specs.Verdict.{Verdict}
 use Rattle.ranges.proofs.check_list.Reads as check
 use Rattle.ranges.proofs.in_pairs.Reads as search_pairs
 use Rattle.ranges.proofs.good_pair.Reads as good

@@ -1,4 +1,5 @@
 -- A PAIR CUT IN TWO that adjoin, as unmerged lines of Unicode's files have it: a good list stays good, and holds what it held.
+use Rattle.std.specs.Prelude.{None}
 use Prim.Native.Nat.{ℕ, suc, ◌%◌, ◌≤◌, ◌<◌}
 use mathlib.Core.Path.{◌≡◌, refl, sym, ap, ◌∙◌}
 use mathlib.Core.Bool.{Bool}
@@ -12,12 +13,11 @@ use Rattle.basics.specs.Tests.{within}
 use Rattle.basics.proofs.Choices.{below_or_not, inside_within, under_within, over_within}
 use Rattle.ranges.specs.Rules.{good_pair, flaw_from, Good}
 use Rattle.ranges.specs.Search.{in_pairs}
-use Rattle.ranges.specs.declared.Flaw.TheVariants.{Nowhere}
 use Rattle.ranges.proofs.Pairs.{pair_true, pair_part}
 use Rattle.ranges.proofs.Laws.{right}
 
 -- which index a list begins with does not matter where it has no flaw
-any_index : (i j p : ℕ) (l : List ℕ) → flaw_from i p l ≡ Nowhere → flaw_from j p l ≡ Nowhere
+any_index : (i j p : ℕ) (l : List ℕ) → flaw_from i p l ≡ None → flaw_from j p l ≡ None
 unfolding flaw_from
 any_index i j p [] e = refl
 any_index i j p (a ∷ []) e = let z : ◌≡◌ {A = ℕ} 0 1 = cc in absurd (omega arith)
@@ -53,7 +53,7 @@ module _ (low middle high : ℕ) (lower : low ≤ middle) (upper : middle < high
   cut_held c (a ∷ b ∷ before) e = ap (or (within a b c)) (cut_held c before (omega arith))
 
   -- IT STAYS GOOD
-  parts_good : (i j p : ℕ) (before : List ℕ) → length before % 2 ≡ 0 → flaw_from i p (before ++ whole) ≡ Nowhere → flaw_from j p (before ++ parts) ≡ Nowhere
+  parts_good : (i j p : ℕ) (before : List ℕ) → length before % 2 ≡ 0 → flaw_from i p (before ++ whole) ≡ None → flaw_from j p (before ++ parts) ≡ None
   unfolding flaw_from
   parts_good i j p [] e g =
       let f = right (good_pair p low high) (flaw_from (suc i) high after) i g in

@@ -1,4 +1,5 @@
 -- What the check of a list promises, and what a good list holds.
+use Rattle.std.specs.Prelude.{Option, None, Some, Err}
 use Prim.Native.Nat.{ℕ, suc, ◌/◌, ◌≤◌, ◌<◌}
 use mathlib.Core.Path.{◌≡◌, refl, sym}
 use mathlib.Core.Bool.{Bool, true, false}
@@ -12,12 +13,10 @@ use Rattle.basics.specs.Choice.{pick, or}
 use Rattle.basics.specs.Tests.{within}
 use Rattle.basics.proofs.Choices.{below_or_not, within_true}
 use Rattle.refusal.specs.declared.Bad.TheVariants as bad
-use Rattle.refusal.specs.declared.Verdict.TheVariants.{Fine, Refused}
 use Rattle.ranges.specs.Rules.{meets, good_pair, flaw_from, flaw, list_verdict, Good}
 use Rattle.ranges.specs.Search.{in_pairs}
-use Rattle.ranges.specs.declared.Flaw.{Flaw}
-use Rattle.ranges.specs.declared.Flaw.TheVariants.{Nowhere, Pair}
 use Rattle.ranges.proofs.Pairs.{clear_true, pair_true, count_fits, verdict_fine}
+use Rattle.refusal.specs.Verdict.{fine}
 
 -- what a good list holds: a scalar value from 0x80 on, and no whitespace
 pub record Held (c : ℕ) : Type 0 where
@@ -31,34 +30,34 @@ pub record Held (c : ℕ) : Type 0 where
   pub not_2029 : c ≡ 0x2029 → ⊥
 
 -- where the verdict is fine there is no flaw
-no_flaw : (which : ℕ) (f : Flaw) → elim f [ Nowhere ↦ Fine | Pair k ↦ Refused (bad.List which k) ] ≡ Fine → f ≡ Nowhere
-no_flaw which Nowhere e = refl
-no_flaw which (Pair k) e = let z : ◌≡◌ {A = ℕ} 0 1 = cc in absurd (omega arith)
+no_flaw : (which : ℕ) (f : (Option ℕ)) → elim f [ None ↦ fine | Some k ↦ Err (bad.List which k) ] ≡ fine → f ≡ None
+no_flaw which None e = refl
+no_flaw which (Some k) e = let z : ◌≡◌ {A = ℕ} 0 1 = cc in absurd (omega arith)
 
 -- a choice between a pair and another flaw, which is not a flaw
-left : (t : Bool) (k : ℕ) (f : Flaw) → pick t (Pair k) f ≡ Nowhere → (t ≡ false) × (f ≡ Nowhere)
+left : (t : Bool) (k : ℕ) (f : (Option ℕ)) → pick t (Some k) f ≡ None → (t ≡ false) × (f ≡ None)
 left true k f e = let z : ◌≡◌ {A = ℕ} 0 1 = cc in absurd (omega arith)
 left false k f e = (refl, e)
 
-pub right : (t : Bool) (f : Flaw) (k : ℕ) → pick t f (Pair k) ≡ Nowhere → (t ≡ true) × (f ≡ Nowhere)
+pub right : (t : Bool) (f : (Option ℕ)) (k : ℕ) → pick t f (Some k) ≡ None → (t ≡ true) × (f ≡ None)
 right true f k e = (refl, e)
 right false f k e = let z : ◌≡◌ {A = ℕ} 0 1 = cc in absurd (omega arith)
 
 module _ (limit which : ℕ) (l : List ℕ) where
-  fine_both : list_verdict limit which l ≡ Fine → (ltb limit (length l / 2) ≡ false) × (flaw_from 0 0 l ≡ Nowhere)
+  fine_both : list_verdict limit which l ≡ fine → (ltb limit (length l / 2) ≡ false) × (flaw_from 0 0 l ≡ None)
   unfolding list_verdict flaw
   fine_both e = left _ _ _ (no_flaw which (flaw limit l) e)
 
   -- a list that the check lets through is good
-  pub fine_good : list_verdict limit which l ≡ Fine → Good l
+  pub fine_good : list_verdict limit which l ≡ fine → Good l
   fine_good e = record { pairs = (fine_both e).1 }
 
   -- and it has at most `limit` pairs
-  pub fine_count : list_verdict limit which l ≡ Fine → length l / 2 ≤ limit
+  pub fine_count : list_verdict limit which l ≡ fine → length l / 2 ≤ limit
   fine_count e = ltb-false limit (length l / 2) (fine_both e).0
 
   -- a good list with at most `limit` pairs is let through
-  pub good_fine : Good l → length l / 2 ≤ limit → list_verdict limit which l ≡ Fine
+  pub good_fine : Good l → length l / 2 ≤ limit → list_verdict limit which l ≡ fine
   good_fine g h = sym (verdict_fine limit which l (count_fits limit l h (sym g.pairs)) refl)
 
 -- a pair that covers no point from first to last: a point of it lies outside
@@ -102,7 +101,7 @@ or_split : (a b : Bool) → or a b ≡ true → (a ≡ true) ⊎ (b ≡ true)
 or_split true b e = inl refl
 or_split false b e = inr e
 
-held_from : (k p c : ℕ) (l : List ℕ) → flaw_from k p l ≡ Nowhere → in_pairs c l ≡ true → Held c
+held_from : (k p c : ℕ) (l : List ℕ) → flaw_from k p l ≡ None → in_pairs c l ≡ true → Held c
 unfolding flaw_from in_pairs
 held_from k p c [] g e = let z : ◌≡◌ {A = ℕ} 0 1 = cc in absurd (omega arith)
 held_from k p c (low ∷ []) g e = let z : ◌≡◌ {A = ℕ} 0 1 = cc in absurd (omega arith)

@@ -4,8 +4,7 @@ use mathlib.Core.Path.{◌≡◌}
 use mathlib.Core.List.{List}
 use lib.ListN.{length}
 use native.Mathlib.Omega.{arith}
-use Rattle.refusal.specs.declared.Verdict.{Verdict}
-use Rattle.refusal.specs.declared.Verdict.TheVariants.{Fine}
+use Rattle.refusal.specs.Verdict.{Verdict, fine}
 use Rattle.ranges.specs.Rules.{list_verdict}
 use Rattle.ranges.proofs.Laws.{fine_count}
 use Rattle.ranges.proofs.Turns.{turns, turns_left, no_more_turns}
@@ -20,5 +19,5 @@ limit_holds κs a r x p = p
 
 -- So the search in a list that the check lets through takes no more turns than in one of so many pairs: this is the measure of its loop where the loop
 -- begins, and each turn takes one or more off it.
-pub limit_turns : (which : ℕ) (l : List ℕ) → list_verdict limit which l ≡ Fine → turns_left 0 (length l / 2) ≤ turns limit
+pub limit_turns : (which : ℕ) (l : List ℕ) → list_verdict limit which l ≡ fine → turns_left 0 (length l / 2) ≤ turns limit
 limit_turns which l e = no_more_turns (omega (arith, fine_count limit which l e))

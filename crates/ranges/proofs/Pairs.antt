@@ -1,4 +1,5 @@
 -- Laws of a list read pair by pair.
+use Rattle.std.specs.Prelude.{Option, None, Some, Err}
 use Prim.Native.Nat.{ℕ, suc, ◌+◌, ◌*◌, ◌/◌, ◌%◌, ◌≤◌, ◌<◌}
 use mathlib.Core.Path.{◌≡◌, refl, sym, ap, ◌∙◌}
 use mathlib.Core.Bool.{Bool, true, false, not}
@@ -13,10 +14,8 @@ use native.Mathlib.Omega.{arith}
 use Rattle.basics.specs.Choice.{pick}
 use Rattle.basics.proofs.Choices.{and_1, and_2}
 use Rattle.ranges.specs.Rules.{meets, clear, good_pair, flaw_from, flaw, list_verdict}
-use Rattle.ranges.specs.declared.Flaw.{Flaw}
-use Rattle.ranges.specs.declared.Flaw.TheVariants.{Nowhere, Pair}
 use Rattle.refusal.specs.declared.Bad.TheVariants as bad
-use Rattle.refusal.specs.declared.Verdict.TheVariants.{Fine, Refused}
+use Rattle.refusal.specs.Verdict.{fine}
 
 -- a test that cannot hold does not
 refuted : (t : Bool) → (t ≡ true → ⊥) → false ≡ t
@@ -141,17 +140,17 @@ pair_at l k h =
 
 -- the clauses of the definition
 flaw_pair : (k p low high : ℕ) (l : List ℕ)
-    → flaw_from k p (low ∷ high ∷ l) ≡ pick (good_pair p low high) (flaw_from (suc k) high l) (Pair k)
+    → flaw_from k p (low ∷ high ∷ l) ≡ pick (good_pair p low high) (flaw_from (suc k) high l) (Some k)
 unfolding flaw_from
 flaw_pair k p low high l = refl
 
-flaw_half : (k p : ℕ) (l : List ℕ) → length l ≡ 1 → flaw_from k p l ≡ Pair k
+flaw_half : (k p : ℕ) (l : List ℕ) → length l ≡ 1 → flaw_from k p l ≡ Some k
 unfolding flaw_from
 flaw_half k p [] h = absurd (omega arith)
 flaw_half k p (a ∷ []) h = refl
 flaw_half k p (a ∷ b ∷ l) h = absurd (omega arith)
 
-flaw_end : (k p : ℕ) (l : List ℕ) → length l ≡ 0 → flaw_from k p l ≡ Nowhere
+flaw_end : (k p : ℕ) (l : List ℕ) → length l ≡ 0 → flaw_from k p l ≡ None
 unfolding flaw_from
 flaw_end k p [] h = refl
 flaw_end k p (a ∷ l) h = absurd (omega arith)
@@ -167,10 +166,10 @@ check_start l = record { same = refl; room = omega arith }
 -- pair k breaks a rule, or none: one turn
 module _ {l : List ℕ} {p k : ℕ} {r : Bool} (w : Checked l p k) (h : k < length l / 2)
     (e : r ≡ good_pair p (get_or l (k * 2) 0) (get_or l (k * 2 + 1) 0)) where
-  turn : pick r (flaw_from (suc k) (get_or l (k * 2 + 1) 0) (drop ((k + 1) * 2) l)) (Pair k) ≡ flaw_from 0 0 l
+  turn : pick r (flaw_from (suc k) (get_or l (k * 2 + 1) 0) (drop ((k + 1) * 2) l)) (Some k) ≡ flaw_from 0 0 l
   turn = rw e (sym (ap (flaw_from k p) (pair_at l k h) ∙ flaw_pair k p _ _ _) ∙ w.same)
 
-  pub check_stop : not r ≡ true → Pair k ≡ flaw_from 0 0 l
+  pub check_stop : not r ≡ true → Some k ≡ flaw_from 0 0 l
   check_stop t = rw (not-true r t) at turn
 
   pub check_on : not r ≡ false → Checked l (get_or l (k * 2 + 1) 0) (k + 1)
@@ -185,31 +184,31 @@ module _ {l : List ℕ} {p k : ℕ} (w : Checked l p k) (h : length l / 2 ≤ k)
   last : k ≡ length l / 2
   last = omega (arith, w.room)
 
-  pub check_half : length l % 2 ≡ 1 → Pair (length l / 2) ≡ flaw_from 0 0 l
+  pub check_half : length l % 2 ≡ 1 → Some (length l / 2) ≡ flaw_from 0 0 l
   check_half o =
-      ap Pair (sym last) ∙ sym (flaw_half k p (drop (k * 2) l) (length-drop (k * 2) l ∙ omega (arith, last))) ∙ w.same
+      ap Some (sym last) ∙ sym (flaw_half k p (drop (k * 2) l) (length-drop (k * 2) l ∙ omega (arith, last))) ∙ w.same
 
-  pub check_end : (length l % 2 ≡ 1 → ⊥) → Nowhere ≡ flaw_from 0 0 l
+  pub check_end : (length l % 2 ≡ 1 → ⊥) → None ≡ flaw_from 0 0 l
   check_end o =
       sym (flaw_end k p (drop (k * 2) l) (length-drop (k * 2) l ∙ omega (arith, last))) ∙ w.same
 
 -- the count first
-pub count_over : (limit : ℕ) (l : List ℕ) → limit < length l / 2 → Pair limit ≡ flaw limit l
+pub count_over : (limit : ℕ) (l : List ℕ) → limit < length l / 2 → Some limit ≡ flaw limit l
 unfolding flaw
 count_over limit l h = rw (lt-ltb limit (length l / 2) h)
 
-pub count_fits : (limit : ℕ) (l : List ℕ) {r : Flaw} → length l / 2 ≤ limit → r ≡ flaw_from 0 0 l → r ≡ flaw limit l
+pub count_fits : (limit : ℕ) (l : List ℕ) {r : (Option ℕ)} → length l / 2 ≤ limit → r ≡ flaw_from 0 0 l → r ≡ flaw limit l
 unfolding flaw
 count_fits limit l h e = rw (le-ltb limit (length l / 2) h) e
 
 -- the verdict of a flaw
-module _ (limit which : ℕ) (l : List ℕ) {r : Flaw} (p : r ≡ flaw limit l) where
-  verdict_of : elim r [ Nowhere ↦ Fine | Pair k ↦ Refused (bad.List which k) ] ≡ list_verdict limit which l
+module _ (limit which : ℕ) (l : List ℕ) {r : (Option ℕ)} (p : r ≡ flaw limit l) where
+  verdict_of : elim r [ None ↦ fine | Some k ↦ Err (bad.List which k) ] ≡ list_verdict limit which l
   unfolding list_verdict
-  verdict_of = ap (λ (x : Flaw). elim x [ Nowhere ↦ Fine | Pair k ↦ Refused (bad.List which k) ]) p
+  verdict_of = ap (λ (x : (Option ℕ)). elim x [ None ↦ fine | Some k ↦ Err (bad.List which k) ]) p
 
-  pub verdict_fine : r ≡ Nowhere → Fine ≡ list_verdict limit which l
+  pub verdict_fine : r ≡ None → fine ≡ list_verdict limit which l
   verdict_fine q = rw q at verdict_of
 
-  pub verdict_bad : {k : ℕ} → r ≡ Pair k → Refused (bad.List which k) ≡ list_verdict limit which l
+  pub verdict_bad : {k : ℕ} → r ≡ Some k → Err (bad.List which k) ≡ list_verdict limit which l
   verdict_bad q = rw q at verdict_of

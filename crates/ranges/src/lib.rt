@@ -6,17 +6,10 @@ ghost use Rattle.std.specs.Prelude.{◌≡◌};
 ghost use Rattle.ranges.specs.Rules.{good_pair, flaw_from, flaw, list_verdict, Good};
 ghost use Rattle.ranges.specs.Search.{in_pairs};
 
-use refusal::{Bad, Verdict};
+use refusal::Bad;
 
 // The most pairs that a list may have. It stands here alone: code and contracts read it, and proofs/Limit says which number it is.
 pub const MAX_PAIRS: usize = 8192;
-
-// Where a list breaks a rule: nowhere, or at the pair of this index.
-#[derive(Clone, Copy)]
-pub enum Flaw {
-    Nowhere,
-    Pair(usize),
-}
 
 // Whether a pair covers one of the points from first to last.
 fn meets(first: u32, last: u32, low: u32, high: u32) -> bool
@@ -60,45 +53,43 @@ pub fn good_pair(previous: u32, low: u32, high: u32) -> bool
     clear(low, high)
 }
 
-// The first pair from the left that breaks a rule, then a half pair.
-fn pairs_flaw(list: &[u32]) -> Flaw
+// The first pair from the left that breaks a rule, then a half pair: its index.
+fn pairs_flaw(list: &[u32]) -> Option<usize>
     ensures { result ≡ flaw_from 0 0 list.now }
 {
     let whole = list.len() / 2;
     let mut previous = 0;
-    let mut k = 0;
-    while k < whole {
+    for k in 0..whole {
         let low = list[k * 2];
         let high = list[k * 2 + 1];
         if !good_pair(previous, low, high) {
-            return Flaw::Pair(k);
+            return Some(k);
         }
         previous = high;
-        k += 1;
     }
     if list.len() % 2 == 1 {
-        return Flaw::Pair(whole);
+        return Some(whole);
     }
-    Flaw::Nowhere
+    None
 }
 
 // The count first, then the pairs.
-fn list_flaw(list: &[u32]) -> Flaw
+fn list_flaw(list: &[u32]) -> Option<usize>
     ensures { result ≡ flaw MAX_PAIRS list.now }
 {
     if MAX_PAIRS < list.len() / 2 {
-        return Flaw::Pair(MAX_PAIRS);
+        return Some(MAX_PAIRS);
     }
     pairs_flaw(list)
 }
 
 // The check of list number `which` (0 id start, 1 id continue, 2 emoji): refusal 3.
-pub fn check_list(which: usize, list: &[u32]) -> Verdict
+pub fn check_list(which: usize, list: &[u32]) -> Result<(), Bad>
     ensures { result ≡ list_verdict MAX_PAIRS which list.now }
 {
     match list_flaw(list) {
-        Flaw::Nowhere => Verdict::Fine,
-        Flaw::Pair(k) => Verdict::Refused(Bad::List(which, k)),
+        None => Ok(()),
+        Some(pair) => Err(Bad::List(which, pair)),
     }
 }
 
