@@ -1,9 +1,10 @@
 -- Document 01, "Nothing left open": two answers that a call's promise allows for the same arguments are the same answer.
+use Rattle.std.specs.Prelude.{Result}
+use Rattle.refusal.specs.declared.Bad.{Bad}
 use mathlib.Core.Path.{◌≡◌, sym, ◌∙◌}
 use mathlib.Core.Bool.{Bool}
 use Rattle.refusal.specs.declared.Numbers.{Numbers}
-use Rattle.refusal.specs.declared.Verdict.{Verdict}
-use Rattle.classes.specs.declared.Answer.{Answer}
+use Rattle.refusal.specs.Verdict.{Verdict}
 use Rattle.classes.proofs.is_whitespace.Reads as whitespace
 use Rattle.classes.proofs.is_horizontal_whitespace.Reads as horizontal
 use Rattle.classes.proofs.is_digit.Reads as decimal
@@ -24,16 +25,16 @@ one_whitespace κs a r q x y p e = p ∙ sym e
 pub one_horizontal : (κs : _) (a : _) (r q : Bool) (x y : _) → horizontal.Post κs a r x → horizontal.Post κs a q y → r ≡ q
 one_horizontal κs a r q x y p e = p ∙ sym e
 
-pub one_start : (κs : _) (a : _) (r q : Answer) (x y : _) → start.Post κs a r x → start.Post κs a q y → r ≡ q
+pub one_start : (κs : _) (a : _) (r q : (Result Bool Bad)) (x y : _) → start.Post κs a r x → start.Post κs a q y → r ≡ q
 one_start κs a r q x y p e = p ∙ sym e
 
-pub one_continue : (κs : _) (a : _) (r q : Answer) (x y : _) → continue.Post κs a r x → continue.Post κs a q y → r ≡ q
+pub one_continue : (κs : _) (a : _) (r q : (Result Bool Bad)) (x y : _) → continue.Post κs a r x → continue.Post κs a q y → r ≡ q
 one_continue κs a r q x y p e = p ∙ sym e
 
-pub one_emoji : (κs : _) (a : _) (r q : Answer) (x y : _) → emoji.Post κs a r x → emoji.Post κs a q y → r ≡ q
+pub one_emoji : (κs : _) (a : _) (r q : (Result Bool Bad)) (x y : _) → emoji.Post κs a r x → emoji.Post κs a q y → r ≡ q
 one_emoji κs a r q x y p e = p ∙ sym e
 
-pub one_ident : (κs : _) (a : _) (r q : Answer) (x y : _) → ident.Post κs a r x → ident.Post κs a q y → r ≡ q
+pub one_ident : (κs : _) (a : _) (r q : (Result Bool Bad)) (x y : _) → ident.Post κs a r x → ident.Post κs a q y → r ≡ q
 one_ident κs a r q x y p e = p ∙ sym e
 
 pub one_digit : (κs : _) (a : _) (r q : Bool) (x y : _) → decimal.Post κs a r x → decimal.Post κs a q y → r ≡ q

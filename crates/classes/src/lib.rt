@@ -14,37 +14,17 @@ ghost use Rattle.classes.specs.Emoji.{emoji_char};
 ghost use Rattle.classes.specs.Answers.{answer_numbers, id_start_answer, id_continue_answer, emoji_answer, ident_verdict, ident_answer};
 
 use ranges::MAX_PAIRS;
-use refusal::{Bad, Numbers, Verdict};
+use refusal::{Bad, Numbers};
 use text::{CodePoint, Decoded};
 
-// A class call's answer: yes or no, or a refusal.
-#[derive(Clone, Copy)]
-pub enum Answer {
-    Is(bool),
-    Refused(Bad),
-}
-
-// The answer by number.
-pub fn answer_numbers(answer: Answer) -> Numbers
+// The answer of a class call by number: 1 for yes, 0 for no, or the refusal.
+pub fn answer_numbers(answer: Result<bool, Bad>) -> Numbers
     ensures { result ≡ answer_numbers answer }
 {
     match answer {
-        Answer::Is(holds) => {
-            if holds {
-                Numbers {
-                    number: 0,
-                    beside: 1,
-                    second: 0,
-                }
-            } else {
-                Numbers {
-                    number: 0,
-                    beside: 0,
-                    second: 0,
-                }
-            }
-        }
-        Answer::Refused(bad) => refusal::bad_numbers(bad),
+        Ok(true) => refusal::done(1, 0),
+        Ok(false) => refusal::done(0, 0),
+        Err(bad) => refusal::bad_numbers(bad),
     }
 }
 
@@ -133,33 +113,27 @@ pub fn emoji_char(c: CodePoint, emoji: &[u32]) -> bool
 }
 
 // PUBLIC. Whether c starts an identifier; refusal 3 where the list breaks a rule.
-pub fn is_id_start(c: CodePoint, starts: &[u32]) -> Answer
+pub fn is_id_start(c: CodePoint, starts: &[u32]) -> Result<bool, Bad>
     ensures { result ≡ id_start_answer MAX_PAIRS starts.now c }
 {
-    match ranges::check_list(0, starts) {
-        Verdict::Fine => Answer::Is(id_start(c, starts)),
-        Verdict::Refused(bad) => Answer::Refused(bad),
-    }
+    ranges::check_list(0, starts)?;
+    Ok(id_start(c, starts))
 }
 
 // PUBLIC. Whether c goes on in an identifier; refusal 3 where the list breaks a rule.
-pub fn is_id_continue(c: CodePoint, continues: &[u32]) -> Answer
+pub fn is_id_continue(c: CodePoint, continues: &[u32]) -> Result<bool, Bad>
     ensures { result ≡ id_continue_answer MAX_PAIRS continues.now c }
 {
-    match ranges::check_list(1, continues) {
-        Verdict::Fine => Answer::Is(id_continue(c, continues)),
-        Verdict::Refused(bad) => Answer::Refused(bad),
-    }
+    ranges::check_list(1, continues)?;
+    Ok(id_continue(c, continues))
 }
 
 // PUBLIC. Whether c is an emoji character; refusal 3 where the list breaks a rule.
-pub fn is_emoji_char(c: CodePoint, emoji: &[u32]) -> Answer
+pub fn is_emoji_char(c: CodePoint, emoji: &[u32]) -> Result<bool, Bad>
     ensures { result ≡ emoji_answer MAX_PAIRS emoji.now c }
 {
-    match ranges::check_list(2, emoji) {
-        Verdict::Fine => Answer::Is(emoji_char(c, emoji)),
-        Verdict::Refused(bad) => Answer::Refused(bad),
-    }
+    ranges::check_list(2, emoji)?;
+    Ok(emoji_char(c, emoji))
 }
 
 // Whether every character from `from` on goes on in an identifier.
@@ -202,23 +176,21 @@ fn ident(text: &[u8], starts: &[u32], continues: &[u32]) -> bool
 }
 
 // What `is_ident` checks: 1, 3 for its two lists, 2.
-pub fn ident_verdict(text: &[u8], starts: &[u32], continues: &[u32]) -> Verdict
+pub fn ident_verdict(text: &[u8], starts: &[u32], continues: &[u32]) -> Result<(), Bad>
     ensures { result ≡ ident_verdict MAX_PAIRS text.now starts.now continues.now }
 {
     let long = text::check_length(text);
     let first = ranges::check_list(0, starts);
     let second = ranges::check_list(1, continues);
-    let both = refusal::lists_in_order(first, second, Verdict::Fine);
+    let both = refusal::lists_in_order(first, second, Ok(()));
     let utf8 = text::check_utf8(text);
     refusal::in_order(long, both, utf8)
 }
 
 // PUBLIC. Whether a text is an identifier, as 000's `is_ident` says; refusals 1, 3 and 2 in this order.
-pub fn is_ident(text: &[u8], starts: &[u32], continues: &[u32]) -> Answer
+pub fn is_ident(text: &[u8], starts: &[u32], continues: &[u32]) -> Result<bool, Bad>
     ensures { result ≡ ident_answer MAX_PAIRS text.now starts.now continues.now }
 {
-    match ident_verdict(text, starts, continues) {
-        Verdict::Fine => Answer::Is(ident(text, starts, continues)),
-        Verdict::Refused(bad) => Answer::Refused(bad),
-    }
+    ident_verdict(text, starts, continues)?;
+    Ok(ident(text, starts, continues))
 }
