@@ -5,6 +5,7 @@
 ghost use Rattle.std.specs.Prelude.{◌≡◌};
 ghost use Rattle.ranges.specs.Rules.{Good};
 ghost use Rattle.token.specs.Lists.{lent, none, starting, going, smiling};
+ghost use Rattle.token.specs.Words.{in_invalid};
 
 use std::marker::Model;
 use text::CodePoint;
@@ -60,6 +61,13 @@ impl<'a> Lists<'a> {
         ensures { result ≡ smiling self.now c }
     {
         classes::emoji_char(c, self.emoji)
+    }
+
+    // Whether c goes on in an identifier that has emoji in it: emoji do, and the zero width joiner.
+    pub fn is_invalid_part(&self, c: CodePoint) -> bool
+        ensures { result ≡ in_invalid self.now c }
+    {
+        self.is_continue(c) || self.is_emoji(c) || c == 0x200D
     }
 }
 

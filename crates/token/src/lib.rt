@@ -1,5 +1,11 @@
-// The types of 000, by value, with its `Option`s and its `Result`. The rules of tokens stand in specs/.
+// The types of 000, by value, with its `Option`s and its `Result`; and two tests of a character that several scans ask. The rules of tokens stand in specs/.
 #![tactic(auto)]
+
+ghost use Rattle.std.specs.Prelude.{◌≡◌};
+ghost use Rattle.token.specs.Numbers.{hex_digit};
+ghost use Rattle.token.specs.Punctuation.{hash_or_quote};
+
+use text::CodePoint;
 
 // The style of a doc comment. A comment that is not a doc comment has none: its kind holds `None`.
 #[derive(Clone, Copy, PartialEq, Eq)]
@@ -123,4 +129,18 @@ pub enum RawStrError {
     TooManyDelimiters {
         found: u32,
     },
+}
+
+// Whether c is a hexadecimal digit.
+pub fn is_hex_digit(c: CodePoint) -> bool
+    ensures { result ≡ hex_digit c }
+{
+    matches!(c, 0x30..=0x39 | 0x61..=0x66 | 0x41..=0x46)
+}
+
+// Whether c is a hash or a double quote.
+pub fn is_hash_or_quote(c: CodePoint) -> bool
+    ensures { result ≡ hash_or_quote c }
+{
+    matches!(c, 0x23 | 0x22)
 }
