@@ -5,36 +5,15 @@ use mathlib.Core.Bool.{Bool, true, false}
 use mathlib.Core.List.{List}
 use borrow.Author.Tests.{ne_eqb}
 use Rattle.basics.specs.Choice.{or}
-use Rattle.basics.specs.Tests.{within}
-use Rattle.classes.specs.Identifiers.{digit, underscore}
+use Rattle.classes.specs.Identifiers.{underscore}
 use Rattle.eaters.specs.Eat.{take_while}
-use Rattle.token.specs.Numbers.{any, hex_digit}
+use Rattle.token.specs.Numbers.{any}
 use Rattle.cursor.specs.declared.Cursor.{Cursor}
-use Rattle.cursor.specs.declared.Step.{Step}
-use Rattle.cursor.specs.declared.Step.TheVariants.{Got, Over}
+use Rattle.std.specs.Prelude.{Option, None, Some}
 use Rattle.cursor.specs.Cursors.{rest, Seen}
 use Rattle.cursor.proofs.Moves.{char_at, end_at}
 use Rattle.cursor.proofs.Loops.{Eaten, eaten_none, eaten_on, eaten_off, eaten_over}
-use Rattle.numerals.specs.Counts.{digit_of, CountedDigits}
-
--- hexadecimal digits, by the three ranges
-module _ (c : ℕ) {t : Bool} (e : t ≡ digit c) where
-  pub hex_digit_lem : t ≡ true → true ≡ hex_digit c
-  hex_digit_lem h = rw (← e, h)
-
-  module _ (n : t ≡ false) {u : Bool} (f : u ≡ within 0x61 0x66 c) where
-    pub hex_small : u ≡ true → true ≡ hex_digit c
-    hex_small h = rw (← e, n, ← f, h)
-
-    pub hex_capital : {v : Bool} → u ≡ false → v ≡ within 0x41 0x46 c → v ≡ hex_digit c
-    hex_capital h g = rw (← e, n, ← f, h) g
-
--- one kind of digits or the other
-pub digit_hex : (c : ℕ) {hex t : Bool} → hex ≡ true → t ≡ hex_digit c → t ≡ digit_of hex c
-digit_hex c h e = rw h e
-
-pub digit_decimal : (c : ℕ) {hex t : Bool} → hex ≡ false → t ≡ digit c → t ≡ digit_of hex c
-digit_decimal c h e = rw h e
+use Rattle.numerals.specs.Counts.{CountedDigits}
 
 -- digits of q, and underscores
 abbrev pub spaced : (ℕ → Bool) → ℕ → Bool
@@ -60,8 +39,8 @@ or_assoc false b c = refl
 pub count_none : (q : ℕ → Bool) (s : List ℕ) (a : Cursor) → Counting q s a a false
 count_none q s a = record { eaten = eaten_none (spaced q) s a; noted = refl }
 
-module _ (q : ℕ → Bool) {s : List ℕ} {a b : Cursor} {some : Bool} {r : Step} (i : Counting q s a b some) (h : Seen s b r) where
-  module _ {c : ℕ} {d : Cursor} (e : r ≡ Got c d) where
+module _ (q : ℕ → Bool) {s : List ℕ} {a b : Cursor} {some : Bool} {r : Option (ℕ × Cursor)} (i : Counting q s a b some) (h : Seen s b r) where
+  module _ {c : ℕ} {d : Cursor} (e : r ≡ Some (c, d)) where
     noted_on : (more : Bool) → spaced q c ≡ true → or some (q c) ≡ more → or more (any q (take_while (spaced q) (rest s d))) ≡ any q (take_while (spaced q) (rest s a))
     noted_on more y o = rw (← o) (or_assoc some (q c) (any q (take_while (spaced q) (rest s d))) ∙ (rw ((char_at e h).chars, y) at i.noted))
 
@@ -84,5 +63,5 @@ module _ (q : ℕ → Bool) {s : List ℕ} {a b : Cursor} {some : Bool} {r : Ste
           let v : spaced q c ≡ false = rw (← f, n) (ne_eqb c 0x5F u) in
           record { moved = eaten_off (spaced q) i.eaten h e (sym v) refl; noted = noted_off v }
 
-  pub count_over : r ≡ Over → CountedDigits (spaced q) q s a (record { next = b; some = some })
+  pub count_over : r ≡ None → CountedDigits (spaced q) q s a (record { next = b; some = some })
   count_over e = record { moved = eaten_over (spaced q) i.eaten h e; noted = sym (or_false some) ∙ (rw (end_at e h) at i.noted) }

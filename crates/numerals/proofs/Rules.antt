@@ -2,13 +2,13 @@
 use Prim.Native.Nat.{ℕ}
 use mathlib.Core.Path.{◌≡◌, refl, sym, ap, ◌∙◌}
 use mathlib.Core.Bool.{Bool, true, false, not}
-use mathlib.Core.List.{List, []}
+use mathlib.Core.List.{List}
 use mathlib.Core.Logic.{◌⊎◌, inl, inr}
 use lib.Dec.{eqb}
 use lib.ListN.{get_or, drop}
 use borrow.Author.Tests.{ne_eqb}
 use Rattle.basics.specs.Choice.{or}
-use Rattle.classes.specs.Identifiers.{digit, id_start}
+use Rattle.classes.specs.Identifiers.{digit}
 use Rattle.classes.proofs.Points.{either_point}
 use Rattle.eaters.specs.Eat.{Eater, give, nothing, take_while, while, ◌>>◌}
 use Rattle.eaters.specs.Look.{if_eat}
@@ -17,7 +17,7 @@ use Rattle.token.specs.declared.Base.TheVariants.{Binary, Octal, Decimal, Hexade
 use Rattle.token.specs.declared.LiteralKind.{LiteralKind}
 use Rattle.token.specs.declared.LiteralKind.TheVariants.{Int, Float}
 use Rattle.token.specs.Names.{is, '+', '-', 'dot', 'E', 'b', 'e', 'o', 'x'}
-use Rattle.token.specs.Lists.{lent}
+use Rattle.token.specs.Lists.{Lists, starting}
 use Rattle.token.specs.Literals.{Body}
 use Rattle.token.specs.Numbers.{any, hex_digit, decimals, hexadecimals, int, float, sign, exponent, maybe_exponent, after_point, fraction, after_digits, based, decimal, number}
 use Rattle.cursor.specs.declared.Cursor.{Cursor}
@@ -36,8 +36,8 @@ signed c = or (is '-' c) (is '+' c)
 abbrev raised : ℕ → Bool
 raised c = or (is 'e' c) (is 'E' c)
 
-abbrev apart : List ℕ → ℕ → Bool
-apart i c = or (is 'dot' c) (id_start i c)
+abbrev apart : Lists → ℕ → Bool
+apart L c = or (is 'dot' c) (starting L c)
 
 neither : (x y c : ℕ) → (c ≡ x → ⊥) → (c ≡ y → ⊥) → or (eqb c x) (eqb c y) ≡ false
 neither x y c h k = rw (ne_eqb c x h, ne_eqb c y k)
@@ -56,17 +56,11 @@ module _ {s : List ℕ} {a : Cursor} {c : ℕ} (e : c ≡ get_or (rest s a) 0 0)
 
 -- an exponent, after its e
 module _ (base : Base) {s : List ℕ} {a b : Cursor} {t : Digits} (g : Ran sign s a b tt) (m : CountedDigits decimals digit s b t) where
-  exponent_in : (empty : Bool) → not t.some ≡ empty → Ran (exponent base) s a t.next (float base empty)
-  exponent_in empty e =
+  pub exponent_in : Ran (exponent base) s a t.next (float base (not t.some))
+  exponent_in =
       ran_then g
       (ran_bind (λ (l : List ℕ). give (float base (not (any digit l)))) (ran_counted m)
-      (ran_word (ran_give (float base (not (any digit (take_while decimals (rest s b))))) s t.next) (ap (float base) (sym e ∙ ap not m.noted))))
-
-  pub exponent_some : t.some ≡ true → Ran (exponent base) s a t.next (record { kind = Float base false; suffixed = true })
-  exponent_some h = exponent_in false (rw h)
-
-  pub exponent_none : t.some ≡ false → Ran (exponent base) s a t.next (record { kind = Float base true; suffixed = true })
-  exponent_none h = exponent_in true (rw h)
+      (ran_word (ran_give (float base (not (any digit (take_while decimals (rest s b))))) s t.next) (ap (λ (e : Bool). float base (not e)) m.noted)))
 
 -- an exponent or none
 module _ (base : Base) (k : LiteralKind) {s : List ℕ} {a : Cursor} {c : ℕ} (e : c ≡ get_or (rest s a) 0 0) where
@@ -86,68 +80,65 @@ module _ (base : Base) {s : List ℕ} {a : Cursor} {c : ℕ} {t : Bool} (e : c �
   point_none h = ran_no _ (give (float base false)) digit e (sym f ∙ h) (ran_give (float base false) s a)
 
 -- after the digits of a number
-module _ (i : List ℕ) (base : Base) {s : List ℕ} {a : Cursor} {c : ℕ} (e : c ≡ get_or (rest s a) 0 0) where
-  pub no_point : {n : Cursor} {x : Body} → (c ≡ 0x2E → ⊥) → Ran (maybe_exponent base (record { kind = Int base false; suffixed = true })) s a n x → Ran (fraction (lent i [] []) base) s a n x
+module _ (L : Lists) (base : Base) {s : List ℕ} {a : Cursor} {c : ℕ} (e : c ≡ get_or (rest s a) 0 0) where
+  pub no_point : {n : Cursor} {x : Body} → (c ≡ 0x2E → ⊥) → Ran (maybe_exponent base (record { kind = Int base false; suffixed = true })) s a n x → Ran (fraction L base) s a n x
   no_point h r =
-      ran_not_both (give (int base false)) _ (is 'dot') (apart i) e refl (rw (ne_eqb c 0x2E h))
+      ran_not_both (give (int base false)) _ (is 'dot') (apart L) e refl (rw (ne_eqb c 0x2E h))
       (ran_no _ (maybe_exponent base (int base false)) (is 'dot') e (ne_eqb c 0x2E h) r)
 
   module _ (h : c ≡ 0x2E) {d : ℕ} (f : d ≡ get_or (rest s a) 1 0) where
-    pub range_in : d ≡ 0x2E → Ran (fraction (lent i [] []) base) s a a (record { kind = Int base false; suffixed = true })
-    range_in k = ran_both (give (int base false)) _ (is 'dot') (apart i) e f (rw (h, k)) (ran_give (int base false) s a)
+    pub range_in : d ≡ 0x2E → Ran (fraction L base) s a a (record { kind = Int base false; suffixed = true })
+    range_in k = ran_both (give (int base false)) _ (is 'dot') (apart L) e f (rw (h, k)) (ran_give (int base false) s a)
 
-    module _ (k : d ≡ 0x2E → ⊥) {t : Bool} (g : t ≡ id_start i d) where
-      pub method_in : t ≡ true → Ran (fraction (lent i [] []) base) s a a (record { kind = Int base false; suffixed = true })
-      method_in y = ran_both (give (int base false)) _ (is 'dot') (apart i) e f (rw (h, ne_eqb d 0x2E k, ← g, y)) (ran_give (int base false) s a)
+    module _ (k : d ≡ 0x2E → ⊥) {t : Bool} (g : t ≡ starting L d) where
+      pub method_in : t ≡ true → Ran (fraction L base) s a a (record { kind = Int base false; suffixed = true })
+      method_in y = ran_both (give (int base false)) _ (is 'dot') (apart L) e f (rw (h, ne_eqb d 0x2E k, ← g, y)) (ran_give (int base false) s a)
 
-      pub point_in : {b n : Cursor} {x : Body} → t ≡ false → Moved s a b (drop 1 (rest s a)) → Ran (after_point base) s b n x → Ran (fraction (lent i [] []) base) s a n x
+      pub point_in : {b n : Cursor} {x : Body} → t ≡ false → Moved s a b (drop 1 (rest s a)) → Ran (after_point base) s b n x → Ran (fraction L base) s a n x
       point_in y m r =
-          ran_not_both (give (int base false)) _ (is 'dot') (apart i) e f (rw (h, ne_eqb d 0x2E k, ← g, y))
+          ran_not_both (give (int base false)) _ (is 'dot') (apart L) e f (rw (h, ne_eqb d 0x2E k, ← g, y))
           (ran_take (after_point base) _ (is 'dot') e (rw h) m r)
 
 -- after the digits that follow a base prefix
-module _ (i : List ℕ) (base : Base) {s : List ℕ} {a : Cursor} {some : Bool} where
-  pub digits_some : {n : Cursor} {x : Body} → some ≡ true → Ran (fraction (lent i [] []) base) s a n x → Ran (after_digits (lent i [] []) base some) s a n x
-  digits_some h r = ran_this (fraction (lent i [] []) base) _ h r
+module _ (L : Lists) (base : Base) {s : List ℕ} {a : Cursor} {some : Bool} where
+  pub digits_some : {n : Cursor} {x : Body} → some ≡ true → Ran (fraction L base) s a n x → Ran (after_digits L base some) s a n x
+  digits_some h r = ran_this (fraction L base) _ h r
 
-  pub digits_none : some ≡ false → Ran (after_digits (lent i [] []) base some) s a a (record { kind = Int base true; suffixed = true })
+  pub digits_none : some ≡ false → Ran (after_digits L base some) s a a (record { kind = Int base true; suffixed = true })
   digits_none h = ran_that _ (give (int base true)) h (ran_give (int base true) s a)
 
-pub based_in : (i : List ℕ) (base : Base) (p q : ℕ → Bool) {s : List ℕ} {a n : Cursor} {t : Digits} {x : Body} → CountedDigits p q s a t → Ran (after_digits (lent i [] []) base t.some) s t.next n x → Ran (based (lent i [] []) base p q) s a n x
-based_in i base p q m r = ran_bind (λ (l : List ℕ). after_digits (lent i [] []) base (any q l)) (ran_counted m) (rw m.noted at r)
+pub based_in : (L : Lists) (base : Base) (p q : ℕ → Bool) {s : List ℕ} {a n : Cursor} {t : Digits} {x : Body} → CountedDigits p q s a t → Ran (after_digits L base t.some) s t.next n x → Ran (based L base p q) s a n x
+based_in L base p q m r = ran_bind (λ (l : List ℕ). after_digits L base (any q l)) (ran_counted m) (rw m.noted at r)
 
-pub decimal_in : (i : List ℕ) {s : List ℕ} {a n : Cursor} {t : Digits} {x : Body} → CountedDigits decimals digit s a t → Ran (fraction (lent i [] []) Decimal) s t.next n x → Ran (decimal (lent i [] [])) s a n x
-decimal_in i m r = ran_then (ran_counted m) r
+pub decimal_in : (L : Lists) {s : List ℕ} {a n : Cursor} {t : Digits} {x : Body} → CountedDigits decimals digit s a t → Ran (fraction L Decimal) s t.next n x → Ran (decimal L) s a n x
+decimal_in L m r = ran_then (ran_counted m) r
 
 -- A NUMBER, after its first digit f
-abbrev prefixed : List ℕ → Eater Body
-prefixed i =
-    if_eat (is 'b') (based (lent i [] []) Binary decimals digit)
-    (if_eat (is 'o') (based (lent i [] []) Octal decimals digit)
-    (if_eat (is 'x') (based (lent i [] []) Hexadecimal hexadecimals hex_digit)
-    (decimal (lent i [] []))))
+abbrev prefixed : Lists → Eater Body
+prefixed L =
+    if_eat (is 'b') (based L Binary decimals digit)
+    (if_eat (is 'o') (based L Octal decimals digit)
+    (if_eat (is 'x') (based L Hexadecimal hexadecimals hex_digit)
+    (decimal L)))
 
-module _ (i : List ℕ) (f : ℕ) {s : List ℕ} {a : Cursor} where
-  pub nonzero_in : {n : Cursor} {x : Body} → (f ≡ 0x30 → ⊥) → Ran (decimal (lent i [] [])) s a n x → Ran (number (lent i [] []) f) s a n x
-  nonzero_in z r = ran_that (prefixed i) (decimal (lent i [] [])) (ne_eqb f 0x30 z) r
+module _ (L : Lists) (f : ℕ) {s : List ℕ} {a : Cursor} where
+  pub nonzero_in : {n : Cursor} {x : Body} → (f ≡ 0x30 → ⊥) → Ran (decimal L) s a n x → Ran (number L f) s a n x
+  nonzero_in z r = ran_that (prefixed L) (decimal L) (ne_eqb f 0x30 z) r
 
   module _ (z : f ≡ 0x30) {c : ℕ} (e : c ≡ get_or (rest s a) 0 0) where
-    zero_in : {n : Cursor} {x : Body} → Ran (prefixed i) s a n x → Ran (number (lent i [] []) f) s a n x
-    zero_in r = ran_this (prefixed i) (decimal (lent i [] [])) (rw z) r
+    zero_in : {n : Cursor} {x : Body} → Ran (prefixed L) s a n x → Ran (number L f) s a n x
+    zero_in r = ran_this (prefixed L) (decimal L) (rw z) r
 
-    pub binary_in : {b n : Cursor} {x : Body} → c ≡ 0x62 → Moved s a b (drop 1 (rest s a)) → Ran (based (lent i [] []) Binary decimals digit) s b n x → Ran (number (lent i [] []) f) s a n x
-    binary_in h m r = zero_in (ran_take (based (lent i [] []) Binary decimals digit) _ (is 'b') e (rw h) m r)
+    pub binary_in : {b n : Cursor} {x : Body} → c ≡ 0x62 → Moved s a b (drop 1 (rest s a)) → Ran (based L Binary decimals digit) s b n x → Ran (number L f) s a n x
+    binary_in h m r = zero_in (ran_take (based L Binary decimals digit) _ (is 'b') e (rw h) m r)
 
-    module _ (u : c ≡ 0x62 → ⊥) where
-      pub octal_in : {b n : Cursor} {x : Body} → c ≡ 0x6F → Moved s a b (drop 1 (rest s a)) → Ran (based (lent i [] []) Octal decimals digit) s b n x → Ran (number (lent i [] []) f) s a n x
-      octal_in h m r = zero_in (ran_no _ _ (is 'b') e (ne_eqb c 0x62 u) (ran_take (based (lent i [] []) Octal decimals digit) _ (is 'o') e (rw h) m r))
+    pub octal_in : {b n : Cursor} {x : Body} → c ≡ 0x6F → Moved s a b (drop 1 (rest s a)) → Ran (based L Octal decimals digit) s b n x → Ran (number L f) s a n x
+    octal_in h m r = zero_in (ran_no _ _ (is 'b') e (rw h) (ran_take (based L Octal decimals digit) _ (is 'o') e (rw h) m r))
 
-      module _ (v : c ≡ 0x6F → ⊥) where
-        past_octal : {n : Cursor} {x : Body} → Ran (if_eat (is 'x') (based (lent i [] []) Hexadecimal hexadecimals hex_digit) (decimal (lent i [] []))) s a n x → Ran (number (lent i [] []) f) s a n x
-        past_octal r = zero_in (ran_no _ _ (is 'b') e (ne_eqb c 0x62 u) (ran_no _ _ (is 'o') e (ne_eqb c 0x6F v) r))
+    pub hexadecimal_in : {b n : Cursor} {x : Body} → c ≡ 0x78 → Moved s a b (drop 1 (rest s a)) → Ran (based L Hexadecimal hexadecimals hex_digit) s b n x → Ran (number L f) s a n x
+    hexadecimal_in h m r =
+        zero_in (ran_no _ _ (is 'b') e (rw h) (ran_no _ _ (is 'o') e (rw h) (ran_take (based L Hexadecimal hexadecimals hex_digit) _ (is 'x') e (rw h) m r)))
 
-        pub hexadecimal_in : {b n : Cursor} {x : Body} → c ≡ 0x78 → Moved s a b (drop 1 (rest s a)) → Ran (based (lent i [] []) Hexadecimal hexadecimals hex_digit) s b n x → Ran (number (lent i [] []) f) s a n x
-        hexadecimal_in h m r = past_octal (ran_take (based (lent i [] []) Hexadecimal hexadecimals hex_digit) _ (is 'x') e (rw h) m r)
-
-        pub unprefixed_in : {n : Cursor} {x : Body} → (c ≡ 0x78 → ⊥) → Ran (decimal (lent i [] [])) s a n x → Ran (number (lent i [] []) f) s a n x
-        unprefixed_in h r = past_octal (ran_no _ (decimal (lent i [] [])) (is 'x') e (ne_eqb c 0x78 h) r)
+    pub unprefixed_in : {n : Cursor} {x : Body} → (c ≡ 0x62 → ⊥) → (c ≡ 0x6F → ⊥) → (c ≡ 0x78 → ⊥) → Ran (decimal L) s a n x → Ran (number L f) s a n x
+    unprefixed_in u v h r =
+        zero_in (ran_no _ _ (is 'b') e (ne_eqb c 0x62 u) (ran_no _ _ (is 'o') e (ne_eqb c 0x6F v) (ran_no _ (decimal L) (is 'x') e (ne_eqb c 0x78 h) r)))

@@ -1,8 +1,10 @@
 -- What a scan of digits promises.
-use Rattle.std.specs.Prelude.{ℕ, ◌≡◌, Bool, true, false, List}
+use Rattle.std.specs.Prelude.{ℕ, ◌≡◌, Bool, List}
 use Rattle.basics.specs.Choice.{or}
 use Rattle.classes.specs.Identifiers.{digit, underscore}
 use Rattle.eaters.specs.Eat.{take_while, while}
+use Rattle.token.specs.declared.Base.{Base}
+use Rattle.token.specs.declared.Base.TheVariants.{Binary, Octal, Decimal, Hexadecimal}
 use Rattle.token.specs.Numbers.{any, hex_digit}
 use Rattle.cursor.specs.declared.Cursor.{Cursor}
 use Rattle.cursor.specs.Cursors.{rest}
@@ -10,14 +12,16 @@ use Rattle.cursor.specs.Moved.{Moved}
 use Rattle.cursor.specs.Ran.{left}
 use Rattle.numerals.specs.declared.Digits.{Digits}
 
--- hexadecimal digits, or decimal ones
-abbrev pub digit_of : (hex : Bool) → ℕ → Bool
-digit_of true = hex_digit
-digit_of false = digit
+-- hexadecimal digits, or decimal ones: binary and octal take all of them
+abbrev pub digit_of : Base → ℕ → Bool
+digit_of Hexadecimal = hex_digit
+digit_of Binary = digit
+digit_of Octal = digit
+digit_of Decimal = digit
 
 -- and underscores: the book's `hexadecimals` and `decimals`
-abbrev pub digits_of : (hex : Bool) → ℕ → Bool
-digits_of hex c = or (digit_of hex c) (underscore c)
+abbrev pub digits_of : Base → ℕ → Bool
+digits_of base c = or (digit_of base c) (underscore c)
 
 -- the characters of p were taken, and r says whether one of them is of q
 pub record CountedDigits (p q : ℕ → Bool) (s : List ℕ) (from : Cursor) (r : Digits) : Type 0 where

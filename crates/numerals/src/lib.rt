@@ -1,17 +1,14 @@
 // Numbers, after their first digit, each function proved equal to its rule in the book. Names are 000's where it has the function.
-// A function that uses a lent list asks for one that was checked.
 #![tactic(auto)]
 
-ghost use Rattle.std.specs.Prelude.{◌≡◌, true, []};
-ghost use Rattle.basics.specs.Tests.{within};
-ghost use Rattle.ranges.specs.Rules.{Good};
-ghost use Rattle.token.specs.Lists.{lent};
+ghost use Rattle.std.specs.Prelude.{◌≡◌, true};
 ghost use Rattle.token.specs.Numbers;
 ghost use Rattle.token.specs.Numbers.{hex_digit, sign, exponent, maybe_exponent, after_point, after_digits};
 ghost use Rattle.cursor.specs.Ran.{Ran};
 ghost use Rattle.numerals.specs.Counts.{digit_of, digits_of, CountedDigits};
 
-use cursor::{Cursor, Step};
+use cursor::Cursor;
+use lists::Lists;
 use text::CodePoint;
 use token::{Base, LiteralKind};
 
@@ -29,58 +26,37 @@ pub struct Numeral {
     pub next: Cursor,
 }
 
-// Whether c lies from low to high, both included.
-fn is_within(c: CodePoint, low: CodePoint, high: CodePoint) -> bool
-    ensures { result ≡ within low high c }
-{
-    if low <= c { c <= high } else { false }
-}
-
 fn is_hex_digit(c: CodePoint) -> bool
     ensures { result ≡ hex_digit c }
 {
-    if classes::is_digit(c) {
-        return true;
-    }
-    if is_within(c, 0x61, 0x66) {
-        return true;
-    }
-    is_within(c, 0x41, 0x46)
+    matches!(c, 0x30..=0x39 | 0x61..=0x66 | 0x41..=0x46)
 }
 
-// Whether c is a digit: a hexadecimal one, if `hex` says so, or a decimal one.
-fn is_digit_of(c: CodePoint, hex: bool) -> bool
-    ensures { result ≡ digit_of hex c }
+// Whether c is a digit after a prefix of this base. Binary and octal take every decimal digit.
+fn is_digit_of(c: CodePoint, base: Base) -> bool
+    ensures { result ≡ digit_of base c }
 {
-    if hex {
-        return is_hex_digit(c);
+    match base {
+        Base::Hexadecimal => is_hex_digit(c),
+        Base::Binary | Base::Octal | Base::Decimal => classes::is_digit(c),
     }
-    classes::is_digit(c)
 }
 
 // Past digits and underscores (000's eat_decimal_digits and eat_hexadecimal_digits). An underscore is not a digit.
-fn eat_digits(text: &[u8], from: Cursor, hex: bool) -> Digits
-    ensures { CountedDigits (digits_of hex) (digit_of hex) text.now from result }
+fn eat_digits(text: &[u8], from: Cursor, base: Base) -> Digits
+    ensures { CountedDigits (digits_of base) (digit_of base) text.now from result }
 {
     let mut cur = from;
     let mut some = false;
-    loop {
-        match cur.peek(text) {
-            Step::Got(c, next) => {
-                if is_digit_of(c, hex) {
-                    some = true;
-                    cur = next;
-                } else {
-                    if c == 0x5F {
-                        cur = next;
-                    } else {
-                        return Digits { next: cur, some };
-                    }
-                }
-            }
-            Step::Over => return Digits { next: cur, some },
+    while let Some((c, next)) = cur.peek(text) {
+        if is_digit_of(c, base) {
+            some = true;
+        } else if c != 0x5F {
+            break;
         }
+        cur = next;
     }
+    Digits { next: cur, some }
 }
 
 // Past the sign of an exponent, if there is one.
@@ -98,24 +74,13 @@ fn eat_sign(text: &[u8], from: Cursor) -> Cursor
 fn eat_float_exponent(text: &[u8], from: Cursor, base: Base) -> Numeral
     ensures { Ran (exponent base) text.now from result.next (record { kind = result.kind; suffixed = true }) }
 {
-    let start = eat_sign(text, from);
-    let t = eat_digits(text, start, false);
-    let next = t.next;
-    if t.some {
-        return Numeral {
-            kind: LiteralKind::Float {
-                base,
-                empty_exponent: false,
-            },
-            next,
-        };
-    }
+    let digits = eat_digits(text, eat_sign(text, from), Base::Decimal);
     Numeral {
         kind: LiteralKind::Float {
             base,
-            empty_exponent: true,
+            empty_exponent: !digits.some,
         },
-        next,
+        next: digits.next,
     }
 }
 
@@ -143,17 +108,15 @@ fn after_point(text: &[u8], from: Cursor, base: Base) -> Numeral
     };
     let c = from.first(text);
     if classes::is_digit(c) {
-        let t = eat_digits(text, from, false);
-        let next = t.next;
-        return maybe_exponent(text, next, base, kind);
+        let digits = eat_digits(text, from, Base::Decimal);
+        return maybe_exponent(text, digits.next, base, kind);
     }
     Numeral { kind, next: from }
 }
 
 // After the digits of a number. A point joins, unless another one follows, as in a range, or the start of an identifier, as in a call of a method.
-fn fraction(text: &[u8], from: Cursor, base: Base, starts: &[u32]) -> Numeral
-    requires { Good starts.now }
-    ensures { Ran (Numbers.fraction (lent starts.now [] []) base) text.now from result.next (record { kind = result.kind; suffixed = true }) }
+fn fraction(text: &[u8], from: Cursor, base: Base, lists: &Lists) -> Numeral
+    ensures { Ran (Numbers.fraction lists.now base) text.now from result.next (record { kind = result.kind; suffixed = true }) }
 {
     let kind = LiteralKind::Int {
         base,
@@ -164,69 +127,55 @@ fn fraction(text: &[u8], from: Cursor, base: Base, starts: &[u32]) -> Numeral
         return maybe_exponent(text, from, base, kind);
     }
     let d = from.second(text);
-    if d == 0x2E {
-        return Numeral { kind, next: from };
-    }
-    if classes::id_start(d, starts) {
+    if d == 0x2E || lists.is_start(d) {
         return Numeral { kind, next: from };
     }
     after_point(text, from.bump(text), base)
 }
 
 // After the digits that follow a base prefix: without a digit the number is empty, and ends there.
-fn after_digits(text: &[u8], from: Cursor, some: bool, base: Base, starts: &[u32]) -> Numeral
-    requires { Good starts.now }
-    ensures { Ran (after_digits (lent starts.now [] []) base some) text.now from result.next (record { kind = result.kind; suffixed = true }) }
+fn after_digits(text: &[u8], digits: Digits, base: Base, lists: &Lists) -> Numeral
+    ensures { Ran (after_digits lists.now base digits.some) text.now digits.next result.next (record { kind = result.kind; suffixed = true }) }
 {
-    if some {
-        return fraction(text, from, base, starts);
+    if digits.some {
+        return fraction(text, digits.next, base, lists);
     }
     Numeral {
         kind: LiteralKind::Int {
             base,
             empty_int: true,
         },
-        next: from,
+        next: digits.next,
     }
 }
 
-// A number after its base prefix. A binary and an octal number take every decimal digit.
-fn based(text: &[u8], from: Cursor, base: Base, hex: bool, starts: &[u32]) -> Numeral
-    requires { Good starts.now }
-    ensures { Ran (Numbers.based (lent starts.now [] []) base (digits_of hex) (digit_of hex)) text.now from result.next (record { kind = result.kind; suffixed = true }) }
+// A number after its base prefix.
+fn based(text: &[u8], from: Cursor, base: Base, lists: &Lists) -> Numeral
+    ensures { Ran (Numbers.based lists.now base (digits_of base) (digit_of base)) text.now from result.next (record { kind = result.kind; suffixed = true }) }
 {
-    let t = eat_digits(text, from, hex);
-    let next = t.next;
-    after_digits(text, next, t.some, base, starts)
+    after_digits(text, eat_digits(text, from, base), base, lists)
 }
 
 // A number without a base prefix.
-fn decimal(text: &[u8], from: Cursor, starts: &[u32]) -> Numeral
-    requires { Good starts.now }
-    ensures { Ran (Numbers.decimal (lent starts.now [] [])) text.now from result.next (record { kind = result.kind; suffixed = true }) }
+fn decimal(text: &[u8], from: Cursor, lists: &Lists) -> Numeral
+    ensures { Ran (Numbers.decimal lists.now) text.now from result.next (record { kind = result.kind; suffixed = true }) }
 {
-    let t = eat_digits(text, from, false);
-    let next = t.next;
-    fraction(text, next, Base::Decimal, starts)
+    let digits = eat_digits(text, from, Base::Decimal);
+    fraction(text, digits.next, Base::Decimal, lists)
 }
 
 // A number, after its first digit. A letter after a 0 may be a base prefix.
-pub fn number(text: &[u8], from: Cursor, first: CodePoint, starts: &[u32]) -> Numeral
-    requires { Good starts.now }
-    ensures { Ran (Numbers.number (lent starts.now [] []) first) text.now from result.next (record { kind = result.kind; suffixed = true }) }
+pub fn number(text: &[u8], from: Cursor, first: CodePoint, lists: &Lists) -> Numeral
+    ensures { Ran (Numbers.number lists.now first) text.now from result.next (record { kind = result.kind; suffixed = true }) }
 {
     if first != 0x30 {
-        return decimal(text, from, starts);
+        return decimal(text, from, lists);
     }
     let c = from.first(text);
-    if c == 0x62 {
-        return based(text, from.bump(text), Base::Binary, false, starts);
+    match c {
+        0x62 => based(text, from.bump(text), Base::Binary, lists),
+        0x6F => based(text, from.bump(text), Base::Octal, lists),
+        0x78 => based(text, from.bump(text), Base::Hexadecimal, lists),
+        _ => decimal(text, from, lists),
     }
-    if c == 0x6F {
-        return based(text, from.bump(text), Base::Octal, false, starts);
-    }
-    if c == 0x78 {
-        return based(text, from.bump(text), Base::Hexadecimal, true, starts);
-    }
-    decimal(text, from, starts)
 }

@@ -1,12 +1,9 @@
 // Identifiers, prefixes, invalid identifiers and lifetimes, each proved equal to its rule in the book. Names are 000's.
-// A function that uses a lent list asks for one that was checked.
 #![tactic(auto)]
 
-ghost use Rattle.std.specs.Prelude.{◌≡◌, []};
-ghost use Rattle.ranges.specs.Rules.{Good};
-ghost use Rattle.classes.specs.Identifiers.{id_continue};
+ghost use Rattle.std.specs.Prelude.{◌≡◌};
 ghost use Rattle.eaters.specs.Eat.{while};
-ghost use Rattle.token.specs.Lists.{lent};
+ghost use Rattle.token.specs.Lists.{going};
 ghost use Rattle.token.specs.Literals.{identifier};
 ghost use Rattle.token.specs.Words.{in_invalid, invalid_ident, prefix_mark, ident_or_unknown_prefix};
 ghost use Rattle.token.specs.Lifetimes.{raw_name};
@@ -16,84 +13,50 @@ ghost use Rattle.cursor.specs.Cursors.{rest};
 ghost use Rattle.cursor.specs.Moved.{Moved};
 ghost use Rattle.cursor.specs.Ran.{left, Ran};
 
-use cursor::{Cursor, Kinded, Lexed, Scanned, Step};
+use cursor::{Cursor, Kinded, Lexed, Scanned};
+use lists::Lists;
 use text::CodePoint;
 use token::{LiteralKind, TokenKind};
 
 // Past what goes on in an identifier.
-fn eat_continue(text: &[u8], from: Cursor, continues: &[u32]) -> Cursor
-    requires { Good continues.now }
-    ensures { Moved text.now from result (left (while (id_continue continues.now)) (rest text.now from)) }
+fn eat_continue(text: &[u8], from: Cursor, lists: &Lists) -> Cursor
+    ensures { Moved text.now from result (left (while (going lists.now)) (rest text.now from)) }
 {
-    let mut cur = from;
-    loop {
-        match cur.peek(text) {
-            Step::Got(c, next) => {
-                if classes::id_continue(c, continues) {
-                    cur = next;
-                } else {
-                    return cur;
-                }
-            }
-            Step::Over => return cur,
-        }
-    }
+    from.eat_while(text, |c| lists.is_continue(c))
 }
 
 // An identifier, if there is one.
-pub fn eat_identifier(text: &[u8], from: Cursor, starts: &[u32], continues: &[u32]) -> Cursor
-    requires { Good starts.now × Good continues.now }
-    ensures { Ran (identifier (lent starts.now continues.now [])) text.now from result tt }
+pub fn eat_identifier(text: &[u8], from: Cursor, lists: &Lists) -> Cursor
+    ensures { Ran (identifier lists.now) text.now from result tt }
 {
     let c = from.first(text);
-    if classes::id_start(c, starts) {
-        return eat_continue(text, from.bump(text), continues);
+    if lists.is_start(c) {
+        return eat_continue(text, from.bump(text), lists);
     }
     from
 }
 
 // Whether c goes on in an invalid identifier.
-fn in_invalid(c: CodePoint, continues: &[u32], emoji: &[u32]) -> bool
-    requires { Good continues.now × Good emoji.now }
-    ensures { result ≡ in_invalid (lent [] continues.now emoji.now) c }
+fn in_invalid(c: CodePoint, lists: &Lists) -> bool
+    ensures { result ≡ in_invalid lists.now c }
 {
-    if classes::id_continue(c, continues) {
-        return true;
-    }
-    if classes::emoji_char(c, emoji) {
-        return true;
-    }
-    c == 0x200D
+    lists.is_continue(c) || lists.is_emoji(c) || c == 0x200D
 }
 
 // Past what goes on in an invalid identifier.
-fn eat_invalid(text: &[u8], from: Cursor, continues: &[u32], emoji: &[u32]) -> Cursor
-    requires { Good continues.now × Good emoji.now }
-    ensures { Moved text.now from result (left (while (in_invalid (lent [] continues.now emoji.now))) (rest text.now from)) }
+fn eat_invalid(text: &[u8], from: Cursor, lists: &Lists) -> Cursor
+    ensures { Moved text.now from result (left (while (in_invalid lists.now)) (rest text.now from)) }
 {
-    let mut cur = from;
-    loop {
-        match cur.peek(text) {
-            Step::Got(c, next) => {
-                if in_invalid(c, continues, emoji) {
-                    cur = next;
-                } else {
-                    return cur;
-                }
-            }
-            Step::Over => return cur,
-        }
-    }
+    from.eat_while(text, |c| in_invalid(c, lists))
 }
 
 // An invalid identifier, after its first character.
-pub fn invalid_ident(text: &[u8], from: Cursor, continues: &[u32], emoji: &[u32]) -> Lexed
-    requires { Good continues.now × Good emoji.now }
-    ensures { Ran (invalid_ident (lent [] continues.now emoji.now)) text.now from result.next result.kind }
+pub fn invalid_ident(text: &[u8], from: Cursor, lists: &Lists) -> Lexed
+    ensures { Ran (invalid_ident lists.now) text.now from result.next result.kind }
 {
     Lexed {
         kind: TokenKind::InvalidIdent,
-        next: eat_invalid(text, from, continues, emoji),
+        next: eat_invalid(text, from, lists),
     }
 }
 
@@ -101,21 +64,14 @@ pub fn invalid_ident(text: &[u8], from: Cursor, continues: &[u32], emoji: &[u32]
 fn is_prefix_mark(c: CodePoint) -> bool
     ensures { result ≡ prefix_mark c }
 {
-    if c == 0x23 {
-        return true;
-    }
-    if c == 0x22 {
-        return true;
-    }
-    c == 0x27
+    matches!(c, 0x23 | 0x22 | 0x27)
 }
 
 // An identifier or an unknown prefix, after its first character.
-pub fn ident_or_unknown_prefix(text: &[u8], from: Cursor, continues: &[u32], emoji: &[u32]) -> Lexed
-    requires { Good continues.now × Good emoji.now }
-    ensures { Ran (ident_or_unknown_prefix (lent [] continues.now emoji.now)) text.now from result.next result.kind }
+pub fn ident_or_unknown_prefix(text: &[u8], from: Cursor, lists: &Lists) -> Lexed
+    ensures { Ran (ident_or_unknown_prefix lists.now) text.now from result.next result.kind }
 {
-    let next = eat_continue(text, from, continues);
+    let next = eat_continue(text, from, lists);
     let c = next.first(text);
     if is_prefix_mark(c) {
         return Lexed {
@@ -123,8 +79,8 @@ pub fn ident_or_unknown_prefix(text: &[u8], from: Cursor, continues: &[u32], emo
             next,
         };
     }
-    if classes::emoji_char(c, emoji) {
-        return invalid_ident(text, next, continues, emoji);
+    if lists.is_emoji(c) {
+        return invalid_ident(text, next, lists);
     }
     Lexed {
         kind: TokenKind::Ident,
@@ -132,19 +88,11 @@ pub fn ident_or_unknown_prefix(text: &[u8], from: Cursor, continues: &[u32], emo
     }
 }
 
-// What stands after a quote: a lifetime, or a name that a quote closes; or neither, and it is a character literal.
-#[derive(Clone, Copy)]
-pub enum Life {
-    Found(Scanned),
-    Char,
-}
-
 // The rest of a name after a quote. A quote after it makes it a character literal, without a suffix.
-fn lifetime_rest(text: &[u8], from: Cursor, numbered: bool, continues: &[u32]) -> Scanned
-    requires { Good continues.now }
-    ensures { RestRan continues.now numbered text.now from result }
+fn lifetime_rest(text: &[u8], from: Cursor, numbered: bool, lists: &Lists) -> Scanned
+    ensures { RestRan lists.now numbered text.now from result }
 {
-    let next = eat_continue(text, from, continues);
+    let next = eat_continue(text, from, lists);
     let c = next.first(text);
     if c == 0x27 {
         let past = next.bump(text);
@@ -154,23 +102,14 @@ fn lifetime_rest(text: &[u8], from: Cursor, numbered: bool, continues: &[u32]) -
             next: past,
         };
     }
-    if numbered {
-        let kind = TokenKind::Lifetime {
-            starts_with_number: true,
-        };
-        return Scanned {
-            kind: Kinded::Plain(kind),
-            next,
-        };
-    }
-    if c == 0x23 {
+    if c == 0x23 && !numbered {
         return Scanned {
             kind: Kinded::Plain(TokenKind::UnknownPrefixLifetime),
             next,
         };
     }
     let kind = TokenKind::Lifetime {
-        starts_with_number: false,
+        starts_with_number: numbered,
     };
     Scanned {
         kind: Kinded::Plain(kind),
@@ -179,50 +118,42 @@ fn lifetime_rest(text: &[u8], from: Cursor, numbered: bool, continues: &[u32]) -
 }
 
 // A raw lifetime, from its hash on: the hash, the start of an identifier and what goes on in it.
-fn raw_lifetime(text: &[u8], from: Cursor, continues: &[u32]) -> Cursor
-    requires { Good continues.now }
-    ensures { Ran (raw_name (lent [] continues.now [])) text.now from result RawLifetime }
+fn raw_lifetime(text: &[u8], from: Cursor, lists: &Lists) -> Cursor
+    ensures { Ran (raw_name lists.now) text.now from result RawLifetime }
 {
-    eat_continue(text, from.eat(text, 2), continues)
+    eat_continue(text, from.eat(text, 2), lists)
 }
 
 // What a quote and an r begin, after them: a raw lifetime, or the rest of a name.
-fn after_quote_r(text: &[u8], from: Cursor, starts: &[u32], continues: &[u32]) -> Scanned
-    requires { Good starts.now × Good continues.now }
-    ensures { RawNameRan starts.now continues.now text.now from result }
+fn after_quote_r(text: &[u8], from: Cursor, lists: &Lists) -> Scanned
+    ensures { RawNameRan lists.now text.now from result }
 {
-    if from.first(text) != 0x23 {
-        return lifetime_rest(text, from, false, continues);
-    }
-    let third = from.second(text);
-    if classes::id_start(third, starts) {
-        let next = raw_lifetime(text, from, continues);
+    if from.first(text) == 0x23 && lists.is_start(from.second(text)) {
         return Scanned {
             kind: Kinded::Plain(TokenKind::RawLifetime),
-            next,
+            next: raw_lifetime(text, from, lists),
         };
     }
-    lifetime_rest(text, from, false, continues)
+    lifetime_rest(text, from, false, lists)
 }
 
-// What a quote begins, after it, if it is a lifetime or a name that a quote closes.
-pub fn lifetime(text: &[u8], from: Cursor, starts: &[u32], continues: &[u32]) -> Life
-    requires { Good starts.now × Good continues.now }
-    ensures { LifeRan starts.now continues.now text.now from result }
+// What a quote begins, after it, if it is a lifetime or a name that a quote closes. If it is neither, the quote begins a character literal.
+pub fn lifetime(text: &[u8], from: Cursor, lists: &Lists) -> Option<Scanned>
+    ensures { LifeRan lists.now text.now from result }
 {
     let d = from.second(text);
     if d == 0x27 {
-        return Life::Char;
+        return None;
     }
     let c = from.first(text);
     if c == 0x72 {
-        return Life::Found(after_quote_r(text, from.bump(text), starts, continues));
+        return Some(after_quote_r(text, from.bump(text), lists));
     }
     if classes::is_digit(c) {
-        return Life::Found(lifetime_rest(text, from.bump(text), true, continues));
+        return Some(lifetime_rest(text, from.bump(text), true, lists));
     }
-    if classes::id_start(c, starts) {
-        return Life::Found(lifetime_rest(text, from.bump(text), false, continues));
+    if lists.is_start(c) {
+        return Some(lifetime_rest(text, from.bump(text), false, lists));
     }
-    Life::Char
+    None
 }

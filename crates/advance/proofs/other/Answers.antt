@@ -5,11 +5,11 @@ use Rattle.advance.proofs.other.Goals as goal
 pub returns-then-is_whitespace : goal.returns-then-is_whitespace
 returns-then-is_whitespace c = search white_in
 
-pub returns-then-id_start : goal.returns-then-id_start
-returns-then-id_start c = search word_in
+pub returns-then-is_start : goal.returns-then-is_start
+returns-then-is_start c = search word_in
 
-pub returns-then-emoji_char : goal.returns-then-emoji_char
-returns-then-emoji_char c = search emoji_in
+pub returns-then-is_emoji : goal.returns-then-is_emoji
+returns-then-is_emoji c = search emoji_in
 
 pub returns : goal.returns
 returns c = search unknown_in

@@ -2,8 +2,8 @@
 use Rattle.numerals.proofs.Rules.{digits_some, digits_none}
 use Rattle.numerals.proofs.after_digits.Goals as goal
 
-pub returns-then-some : goal.returns-then-some
-returns-then-some c = search digits_some
+pub returns-then-digits : goal.returns-then-digits
+returns-then-digits c = search digits_some
 
 pub returns : goal.returns
 returns c = search digits_none

@@ -17,8 +17,8 @@ loop-c-smaller c = search fewer_1
 pub loop-c-preserved : goal.loop-c-preserved
 loop-c-preserved c = search count_underscore
 
-pub returns-else-c-eq95 : goal.returns-else-c-eq95
-returns-else-c-eq95 c = search count_off
+pub returns-then-c-ne95 : goal.returns-then-c-ne95
+returns-then-c-ne95 c = search count_off
 
-pub returns-in-Over : goal.returns-in-Over
-returns-in-Over c = search count_over
+pub returns-in_default : goal.returns-in_default
+returns-in_default c = search count_over

@@ -2,8 +2,8 @@
 use Rattle.words.proofs.Rules.{identifier_in, identifier_none}
 use Rattle.words.proofs.eat_identifier.Goals as goal
 
-pub returns-then-id_start : goal.returns-then-id_start
-returns-then-id_start c = search identifier_in
+pub returns-then-is_start : goal.returns-then-is_start
+returns-then-is_start c = search identifier_in
 
 pub returns : goal.returns
 returns c = search identifier_none

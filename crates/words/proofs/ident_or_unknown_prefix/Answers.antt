@@ -5,8 +5,8 @@ use Rattle.words.proofs.ident_or_unknown_prefix.Goals as goal
 pub returns-then-is_prefix_mark : goal.returns-then-is_prefix_mark
 returns-then-is_prefix_mark c = search prefix_in
 
-pub returns-then-emoji_char : goal.returns-then-emoji_char
-returns-then-emoji_char c = search emoji_in
+pub returns-then-is_emoji : goal.returns-then-is_emoji
+returns-then-is_emoji c = search emoji_in
 
 pub returns : goal.returns
 returns c = search ident_in

@@ -11,8 +11,8 @@ returns-then-c-eq114 c = search found_r
 pub returns-then-is_digit : goal.returns-then-is_digit
 returns-then-is_digit c = search found_digit
 
-pub returns-then-id_start : goal.returns-then-id_start
-returns-then-id_start c = search found_name
+pub returns-then-is_start : goal.returns-then-is_start
+returns-then-is_start c = search found_name
 
 pub returns : goal.returns
 returns c = search name_none
