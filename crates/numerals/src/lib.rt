@@ -3,7 +3,7 @@
 
 ghost use Rattle.std.specs.Prelude.{◌≡◌, true};
 ghost use Rattle.token.specs.Numbers;
-ghost use Rattle.token.specs.Numbers.{hex_digit, sign, exponent, maybe_exponent, after_point, after_digits};
+ghost use Rattle.token.specs.Numbers.{sign, exponent, maybe_exponent, after_point, after_digits};
 ghost use Rattle.cursor.specs.Ran.{Ran};
 ghost use Rattle.numerals.specs.Counts.{digit_of, digits_of, CountedDigits};
 
@@ -26,18 +26,12 @@ pub struct Numeral {
     pub next: Cursor,
 }
 
-fn is_hex_digit(c: CodePoint) -> bool
-    ensures { result ≡ hex_digit c }
-{
-    matches!(c, 0x30..=0x39 | 0x61..=0x66 | 0x41..=0x46)
-}
-
 // Whether c is a digit after a prefix of this base. Binary and octal take every decimal digit.
 fn is_digit_of(c: CodePoint, base: Base) -> bool
     ensures { result ≡ digit_of base c }
 {
     match base {
-        Base::Hexadecimal => is_hex_digit(c),
+        Base::Hexadecimal => token::is_hex_digit(c),
         Base::Binary | Base::Octal | Base::Decimal => classes::is_digit(c),
     }
 }

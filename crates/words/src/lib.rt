@@ -36,18 +36,11 @@ pub fn eat_identifier(text: &[u8], from: Cursor, lists: &Lists) -> Cursor
     from
 }
 
-// Whether c goes on in an invalid identifier.
-fn in_invalid(c: CodePoint, lists: &Lists) -> bool
-    ensures { result ≡ in_invalid lists.now c }
-{
-    lists.is_continue(c) || lists.is_emoji(c) || c == 0x200D
-}
-
 // Past what goes on in an invalid identifier.
 fn eat_invalid(text: &[u8], from: Cursor, lists: &Lists) -> Cursor
     ensures { Moved text.now from result (left (while (in_invalid lists.now)) (rest text.now from)) }
 {
-    from.eat_while(text, |c| in_invalid(c, lists))
+    from.eat_while(text, |c| lists.is_invalid_part(c))
 }
 
 // An invalid identifier, after its first character.
