@@ -4,40 +4,32 @@ use mathlib.Core.Path.{◌≡◌, refl, sym, ap, ◌∙◌}
 use mathlib.Core.Bool.{Bool, true, false}
 use mathlib.Core.List.{List, [], ◌∷◌, ◌++◌}
 use borrow.Author.Tests.{eq-eqb, ne_eqb, eqb-true, eqb-false}
-use lib.ListN.{length, take, drop, get_or, drop_of_length-le, length-drop}
+use lib.ListN.{length, take, drop, get_or}
 use lib.Dec.{eqb}
-use lib.Seq.{drop-cons, drop-drop}
 use native.Mathlib.Numerals.{add-one}
 use native.Mathlib.Omega.{arith}
+use Rattle.std.specs.Prelude.{cond}
+use Rattle.std.proofs.lemmas.List.{take_rest}
+use Rattle.std.proofs.lemmas.List.Recursion.{is_position_or_len}
+use Rattle.std.proofs.lemmas.List.Sums.{position_or_len_is}
 use Rattle.basics.specs.Choice.{pick, or}
 use Rattle.basics.specs.Tests.{is_in}
 use Rattle.puts.specs.Joined.{joined}
-use Rattle.fields.specs.Pieces.{piece, after, Parted, parts, onto, parted}
+use Rattle.fields.specs.Pieces.{piece, after, CutInto, Parted, parts, onto, parted}
 
--- THE SEARCH for a mark from a place on
-pub record Finding (s : List ℕ) (mark from i : ℕ) : Type 0 where
-  pub same : i + length (piece mark (drop i s)) ≡ from + length (piece mark (drop from s))
-  pub within : i ≤ length s
+-- THE SEARCH for a mark: the piece ends at the first one, or with the text
+pub piece_long : (mark n : ℕ) (s : List ℕ) → n ≤ length s → ((k : ℕ) → k < n → get_or s k 0 ≡ mark → ⊥) → (n < length s → get_or s n 0 ≡ mark) → length (piece mark s) ≡ n
+unfolding piece
+piece_long mark n s h before here =
+    is_position_or_len (λ (l : List ℕ). length (piece mark l)) (λ (c : ℕ). eqb c mark) refl turn s
+    ∙ position_or_len_is (λ (c : ℕ). eqb c mark) s n 0 h (λ k l. ne_eqb (get_or s k 0) mark (before k l)) (λ l. eq-eqb (get_or s n 0) mark (here l))
+  where
+    by_test : (t : Bool) (c : ℕ) (p : List ℕ) → length (pick t [] (c ∷ p)) ≡ cond t 0 (1 + length p)
+    by_test true c p = refl
+    by_test false c p = omega arith
 
-module _ {s : List ℕ} {mark from i : ℕ} (f : Finding s mark from i) where
-  pub find_here : i < length s → get_or s i 0 ≡ mark → i ≡ from + length (piece mark (drop from s))
-  unfolding piece
-  find_here h e =
-      let p : length (piece mark (drop i s)) ≡ 0 = rw (drop-cons s i 0 h, eq-eqb (get_or s i 0) mark e, piece) refl in
-      omega (arith, f.same, p)
-
-  pub find_on : i < length s → (get_or s i 0 ≡ mark → ⊥) → Finding s mark from (i + 1)
-  unfolding piece
-  find_on h e =
-      let p : length (piece mark (drop i s)) ≡ suc (length (piece mark (drop (suc i) s))) = rw (drop-cons s i 0 h, ne_eqb (get_or s i 0) mark e, piece) refl in
-      let q : length (piece mark (drop (suc i) s)) ≡ length (piece mark (drop (i + 1) s)) = ap (λ (k : ℕ). length (piece mark (drop k s))) (sym (add-one i)) in
-      record { same = omega (arith, f.same, p, q); within = omega arith }
-
-  pub find_none : length s ≤ i → i ≡ from + length (piece mark (drop from s))
-  unfolding piece
-  find_none h =
-      let p : length (piece mark (drop i s)) ≡ 0 = rw (drop_of_length-le s h, piece) refl in
-      omega (arith, f.same, p)
+    turn : (c : ℕ) (l : List ℕ) → length (piece mark (c ∷ l)) ≡ cond (eqb c mark) 0 (1 + length (piece mark l))
+    turn c l = by_test (eqb c mark) c (piece mark l)
 
 -- A piece is the front of its text.
 front_of : (t : Bool) (c : ℕ) (p s : List ℕ) → take (length p) s ≡ p → take (length (pick t [] (c ∷ p))) (c ∷ s) ≡ pick t [] (c ∷ p)
@@ -172,25 +164,13 @@ parted_whole mark (c ∷ s) = by_test (eqb c mark) refl (parted_whole mark s)
     by_test true e ih = let n : c ≡ mark = eqb-true c mark e in rw n (ap (λ (l : List ℕ). mark ∷ l) ih)
     by_test false e ih = onto_whole mark c (parted mark s).ended (parted mark s).rest ∙ ap (λ (l : List ℕ). c ∷ l) ih
 
--- THE SAME from a place on, in the places of a search: where it found the mark, at n, the bytes up to there and those after it
-pub record Split (mark from n : ℕ) (s : List ℕ) : Type 0 where
-  pub marked : is_in (drop from s) mark ≡ true
-  pub before : piece mark (drop from s) ≡ take (n - from) (drop from s)
-  pub behind : after mark (drop from s) ≡ drop (n + 1) s
-
-pub split_at : (mark from : ℕ) (s : List ℕ) {n : ℕ} → n ≡ from + length (piece mark (drop from s)) → from ≤ length s → n < length s → Split mark from n s
-split_at mark from s {n} e w h =
-    let l : length (drop from s) ≡ length s - from = length-drop from s in
-    let c : Cut mark (drop from s) = cut_at mark (drop from s) (omega arith) in
-    let k : n - from ≡ length (piece mark (drop from s)) = omega arith in
-    let j : from + suc (length (piece mark (drop from s))) ≡ n + 1 = omega arith in
+-- THE CUT at the place of the first mark
+pub cut_into : (mark : ℕ) (s : List ℕ) {n : ℕ} → n ≡ 0 + length (piece mark s) → n < length s → CutInto mark s (take n s) (take (length s - (n + 1)) (drop (n + 1) s))
+cut_into mark s {n} e h =
+    let c : Cut mark s = cut_at mark s (omega arith) in
+    let l : n ≡ length (piece mark s) = omega arith in
     record {
       marked = c.marked;
-      before = sym (ap (λ (x : ℕ). take x (drop from s)) k ∙ piece_take mark (drop from s));
-      behind = c.rest ∙ drop-drop (suc (length (piece mark (drop from s)))) from s ∙ ap (λ (x : ℕ). drop x s) j;
+      before_it = rw l (piece_take mark s);
+      behind_it = take_rest s (n + 1) ∙ rw (add-one, l) (sym c.rest);
     }
-
-pub split_none : (mark from : ℕ) (s : List ℕ) {n : ℕ} → n ≡ from + length (piece mark (drop from s)) → length s ≤ n → is_in (drop from s) mark ≡ false
-split_none mark from s e h =
-    let l : length (drop from s) ≡ length s - from = length-drop from s in
-    (no_cut mark (drop from s) (omega arith)).unmarked

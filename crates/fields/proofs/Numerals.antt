@@ -13,7 +13,7 @@ use Rattle.basics.specs.Choice.{pick, and, or}
 use Rattle.basics.specs.Tests.{all, is_in}
 use Rattle.basics.proofs.Choices.{below_or_not, and_1, and_2, and_both}
 use Rattle.fields.specs.Numerals.{digit_byte, lowest_digits, numeral, digit_of, is_digit, value_from, unpadded, valued_from, number_of, Base}
-use Rattle.fields.specs.declared.Numeral.TheVariants.{Value, Bad}
+use Rattle.std.specs.Prelude.{Some, None}
 use Rattle.fields.proofs.Cuts.{unmarked_append}
 use Rattle.fields.proofs.Values.{digit_low, digit_letter, digit_under, digit_between, digit_over}
 
@@ -120,7 +120,7 @@ module _ {base : ℕ} (b : Base base) where
   spelt n = last_spelt (suc n) n (omega arith)
 
   -- WRITTEN AND READ: a number reads back as it was
-  pub number_back : (most n : ℕ) → n ≤ most → number_of base most (numeral base n) ≡ Value n
+  pub number_back : (most n : ℕ) → n ≤ most → number_of base most (numeral base n) ≡ Some n
   unfolding number_of
   number_back most n h =
       let p : Spelt base n (numeral base n) = spelt n in
@@ -197,7 +197,7 @@ module _ {base : ℕ} (b : Base base) where
     pub written : s ≡ numeral base n
     pub small : n ≤ most
 
-  says_by : (most : ℕ) (s : List ℕ) {n : ℕ} → unpadded s ≡ true → (t : Bool) → and (all (is_digit base) s) (leb (value_from base 0 s) most) ≡ t → pick t (Value (value_from base 0 s)) Bad ≡ Value n → Says most s n
+  says_by : (most : ℕ) (s : List ℕ) {n : ℕ} → unpadded s ≡ true → (t : Bool) → and (all (is_digit base) s) (leb (value_from base 0 s) most) ≡ t → pick t (Some (value_from base 0 s)) None ≡ Some n → Says most s n
   says_by most [] u t e q = let z : ◌≡◌ {A = ℕ} 0 1 = cc in absurd (omega arith)
   says_by most (c ∷ s) u false e q = let z : ◌≡◌ {A = ℕ} 0 1 = cc in absurd (omega arith)
   says_by most (c ∷ s) {n} u true e q =
@@ -208,11 +208,11 @@ module _ {base : ℕ} (b : Base base) where
         small = omega (arith, leb-true (value_from base 0 (c ∷ s)) most (and_2 (all (is_digit base) (c ∷ s)) _ e));
       }
 
-  pub number_says : (most : ℕ) (s : List ℕ) {n : ℕ} → number_of base most s ≡ Value n → Says most s n
+  pub number_says : (most : ℕ) (s : List ℕ) {n : ℕ} → number_of base most s ≡ Some n → Says most s n
   unfolding number_of
   number_says most s {n} q = by_pad (unpadded s) refl q
     where
-      by_pad : (t : Bool) → unpadded s ≡ t → pick t (valued_from base most 0 s) Bad ≡ Value n → Says most s n
+      by_pad : (t : Bool) → unpadded s ≡ t → pick t (valued_from base most 0 s) None ≡ Some n → Says most s n
       by_pad true e p = says_by most s e (and (all (is_digit base) s) (leb (value_from base 0 s) most)) refl p
       by_pad false e p = let z : ◌≡◌ {A = ℕ} 0 1 = cc in absurd (omega arith)
 

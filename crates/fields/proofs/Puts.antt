@@ -6,7 +6,7 @@ use mathlib.Core.Logic.{⊎_elim}
 use borrow.Author.Tests.{lt-ltb, le-ltb}
 use lib.Dec.{ltb}
 use lib.ListN.{length, drop, set, length-append, length-drop, length-set}
-use native.Mathlib.Nat.{pow-suc, pow-zero, mod-lt, div-add-mod', div-lt_iff_lt-mul, le-div_iff_mul-le, div-lt_self, mul-le-mul_left, mul-le-mul_right}
+use native.Mathlib.Nat.{pow-suc, pow-zero, mod-lt, div-add-mod', div-lt_iff_lt-mul, le-div_iff_mul-le, div-lt_self, div-eq_of_lt, mod-eq_of_lt, mul-le-mul_left, mul-le-mul_right}
 use native.Mathlib.Omega.{arith}
 use Rattle.std.proofs.lemmas.List.{drop-set}
 use Rattle.basics.proofs.Choices.{below_or_not, by_pick}
@@ -97,15 +97,20 @@ module _ {base : ℕ} (b : Base base) where
         let s : 1 ≤ length (numeral base rest) = some_digits rest in
         omega (arith, ap length l.whole, length-append (numeral base rest) (drop at room), length-drop at room, l.within)
 
-    pub lay_on : {c : ℕ} → c ≡ digit_byte (rest % base) → base ≤ rest → Laying base n (set room (at - 1) c) (rest / base) (at - 1)
+    pub lay_on : {c : ℕ} → c ≡ digit_byte (rest % base) → (rest / base ≡ 0 → ⊥) → Laying base n (set room (at - 1) c) (rest / base) (at - 1)
     lay_on {c} e h =
+        let more : base ≤ rest = ⊎_elim (λ (s : rest < base). absurd (h (div-eq_of_lt s))) (λ (g : base ≤ rest). g) (below_or_not rest base) in
         record {
-          whole = l.whole ∙ ap (λ (p : List ℕ). p ++ drop at room) (parted_digit rest h) ∙ rw (← e) (digit_laid (numeral base (rest / base)) c at room lay_room l.within);
+          whole = l.whole ∙ ap (λ (p : List ℕ). p ++ drop at room) (parted_digit rest more) ∙ rw (← e) (digit_laid (numeral base (rest / base)) c at room lay_room l.within);
           within = simp length-set (omega (arith, l.within));
         }
 
-    pub lay_ends : {c : ℕ} → c ≡ digit_byte rest → rest < base → drop (at - 1) (set room (at - 1) c) ≡ numeral base n
-    lay_ends {c} e h = sym (l.whole ∙ ap (λ (p : List ℕ). p ++ drop at room) (one_digit b rest h) ∙ rw (← e) (digit_laid [] c at room lay_room l.within))
+    pub lay_ends : {c : ℕ} → c ≡ digit_byte (rest % base) → rest / base ≡ 0 → drop (at - 1) (set room (at - 1) c) ≡ numeral base n
+    lay_ends {c} e h =
+        let z : 0 < base = omega (arith, b.least) in
+        let last : rest < base = ⊎_elim (λ (s : rest < base). s) (λ (g : base ≤ rest). let some : 1 ≤ rest / base = (le-div_iff_mul-le z).1 (omega arith) in absurd (omega arith)) (below_or_not rest base) in
+        let d : c ≡ digit_byte rest = e ∙ ap digit_byte (mod-eq_of_lt last) in
+        sym (l.whole ∙ ap (λ (p : List ℕ). p ++ drop at room) (one_digit b rest last) ∙ rw (← d) (digit_laid [] c at room lay_room l.within))
 
 pub ten : Base 10
 ten = record { least = omega arith; most = omega arith }

@@ -1,10 +1,8 @@
 -- A number as it is written: its digits in a base, in lower case, and no zero in front (document 02, W1). And the number that a field says, which is the
 -- other way round.
-use Rattle.std.specs.Prelude.{ℕ, zero, suc, ◌+◌, ◌-◌, ◌*◌, ◌/◌, ◌%◌, ◌≤◌, Bool, not, List, [], ◌∷◌, ◌++◌, ltb, leb, eqb, length, get_or}
+use Rattle.std.specs.Prelude.{ℕ, Option, None, Some, zero, suc, ◌+◌, ◌-◌, ◌*◌, ◌/◌, ◌%◌, ◌≤◌, Bool, not, List, [], ◌∷◌, ◌++◌, ltb, leb, eqb, length, get_or}
 use Rattle.basics.specs.Choice.{pick, and, or}
 use Rattle.basics.specs.Tests.{within, all}
-use Rattle.fields.specs.declared.Numeral.{Numeral}
-use Rattle.fields.specs.declared.Numeral.TheVariants.{Value, Bad}
 
 -- the byte of a digit below 16: `0` to `9`, then `a` to `f`
 abbrev pub digit_byte : ℕ → ℕ
@@ -27,6 +25,10 @@ digit_of c = pick (within 48 57 c) (c - 48) (pick (within 97 102 c) (c - 87) 16)
 abbrev pub is_digit : (base : ℕ) → ℕ → Bool
 is_digit base c = ltb (digit_of c) base
 
+-- the digit of the base that the byte is; none where it is none
+abbrev pub digit_in : (base : ℕ) → ℕ → Option ℕ
+digit_in base c = pick (is_digit base c) (Some (digit_of c)) None
+
 -- the number that digits say after those that say n
 unfoldable pub value_from : (base n : ℕ) → List ℕ → ℕ
 value_from base n [] = n
@@ -37,20 +39,14 @@ abbrev pub unpadded : List ℕ → Bool
 unpadded s = and (leb 1 (length s)) (or (eqb (length s) 1) (not (eqb (get_or s 0 0) 48)))
 
 -- digits that say a number of at most `most`, after those that say n
-abbrev pub valued_from : (base most n : ℕ) → List ℕ → Numeral
-valued_from base most n s = pick (and (all (is_digit base) s) (leb (value_from base n s) most)) (Value (value_from base n s)) Bad
+abbrev pub valued_from : (base most n : ℕ) → List ℕ → Option ℕ
+valued_from base most n s = pick (and (all (is_digit base) s) (leb (value_from base n s) most)) (Some (value_from base n s)) None
 
 -- THE NUMBER that a field says, of at most `most`
-unfoldable pub number_of : (base most : ℕ) → List ℕ → Numeral
-number_of base most s = pick (unpadded s) (valued_from base most 0 s) Bad
+unfoldable pub number_of : (base most : ℕ) → List ℕ → Option ℕ
+number_of base most s = pick (unpadded s) (valued_from base most 0 s) None
 
 -- the bases that bytes have digits for
 pub record Base (base : ℕ) : Type 0 where
   pub least : 2 ≤ base
   pub most : base ≤ 16
-
--- a number of 32 bits, and a digit more, are one of 64 bits
-pub record Joins (n b d : ℕ) : Type 0 where
-  pub number : n ≤ 4294967295
-  pub base : b ≤ 16
-  pub digit : d ≤ 16

@@ -1,5 +1,5 @@
 -- A text parted at a mark, which is one byte: LF ends a line, and a tab stands between two fields.
-use Rattle.std.specs.Prelude.{ℕ, List, [], ◌∷◌, eqb}
+use Rattle.std.specs.Prelude.{ℕ, ◌≡◌, true, List, [], ◌∷◌, eqb}
 use Rattle.basics.specs.Choice.{pick}
 use Rattle.basics.specs.Tests.{is_in}
 
@@ -16,6 +16,12 @@ after mark (c ∷ s) = pick (eqb c mark) s (after mark s)
 -- what is made of the bytes before the first mark and those after it, or something else where there is none
 abbrev pub if_cut : {A : Type 0} → (mark : ℕ) → List ℕ → A → (List ℕ → List ℕ → A) → A
 if_cut mark s none some = pick (is_in s mark) (some (piece mark s) (after mark s)) none
+
+-- a text has the mark, and these are its bytes before the first mark and those after it
+pub record CutInto (mark : ℕ) (s before behind : List ℕ) : Type 0 where
+  pub marked : is_in s mark ≡ true
+  pub before_it : before ≡ piece mark s
+  pub behind_it : behind ≡ after mark s
 
 -- the pieces of a text that end with a mark, each without it, and what stands after the last mark
 pub record Parted : Type 0 where

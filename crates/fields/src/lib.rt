@@ -2,34 +2,35 @@
 // and in hexadecimal, with no zero in front.
 #![tactic(auto)]
 
-ghost use Rattle.std.specs.Prelude.{◌+◌, ◌*◌, ◌<◌, ◌≤◌, ◌≡◌, length, drop};
+ghost use Rattle.std.specs.Prelude.{◌+◌, ◌<◌, ◌≤◌, ◌≡◌, false, length, drop, MatchOption};
+ghost use Rattle.basics.specs.Tests.{is_in};
 ghost use Rattle.puts.specs.Put.{Put};
-ghost use Rattle.fields.specs.Pieces.{piece};
+ghost use Rattle.fields.specs.Pieces.{piece, CutInto};
 ghost use Rattle.fields.specs.Words;
-ghost use Rattle.fields.specs.Numerals.{numeral, digit_byte, digit_of, valued_from, number_of, Base, Joins};
+ghost use Rattle.fields.specs.Numerals.{numeral, digit_byte, digit_in, valued_from, number_of, Base};
 ghost use Rattle.fields.specs.Numerals;
 ghost use Rattle.fields.specs.Puts.{Fits};
-
-// What a field says as a number.
-#[derive(Drop)]
-pub enum Numeral {
-    Value(u32),
-    Bad,
-}
 
 // The place of the first mark from a place on; the end of the text where there is none.
 pub fn find(s: &[u8], from: usize, mark: u8) -> usize
     requires { from ≤ length s.now }
     ensures { result ≡ from + length (piece mark (drop from s.now)) }
 {
-    let mut i = from;
-    while i < s.len() {
-        if s[i] == mark {
-            return i;
-        }
-        i += 1;
+    match s[from..].iter().position(|&c| c == mark) {
+        Some(bytes) => from + bytes,
+        None => s.len(),
     }
-    i
+}
+
+// What stands before the first mark, and what stands after it. None where there is no mark.
+pub fn cut(s: &[u8], mark: u8) -> Option<(&[u8], &[u8])>
+    ensures { MatchOption result (is_in s.now mark ≡ false) (λ x. CutInto mark s.now x.0.now x.1.now) }
+{
+    let end = find(s, 0, mark);
+    if s.len() <= end {
+        return None;
+    }
+    Some((&s[..end], &s[end + 1..]))
 }
 
 // Whether a field is a word.
@@ -39,68 +40,55 @@ pub fn is_word(field: &[u8], word: &[u8]) -> bool
     field == word
 }
 
-// The digit that a byte is; 16 where it is none.
-fn digit_of(c: u8) -> u32
-    ensures { result ≡ digit_of c }
+// The digit that a byte is in a base; none where it is none.
+fn digit_in(base: u32, c: u8) -> Option<u32>
+    requires { Base base }
+    ensures { result ≡ digit_in base c }
 {
-    match c {
-        48..=57 => (c - 48) as u32,
-        97..=102 => (c - 87) as u32,
-        _ => 16,
-    }
-}
-
-// A digit more.
-fn joined(n: u64, base: u32, d: u32) -> u64
-    requires { Joins n base d }
-    ensures { result ≡ n * base + d }
-{
-    n * (base as u64) + (d as u64)
+    let digit = match c {
+        b'0'..=b'9' => (c - b'0') as u32,
+        b'a'..=b'f' => (c - b'a') as u32 + 10,
+        _ => return None,
+    };
+    if digit < base { Some(digit) } else { None }
 }
 
 // The number that digits say, where it is at most `most`. Reading ends as soon as it is more: more digits make no number smaller.
-fn value_of(s: &[u8], base: u32, most: u32) -> Numeral
+fn value_of(s: &[u8], base: u32, most: u32) -> Option<u32>
     requires { Base base }
     ensures { result ≡ valued_from base most 0 s.now }
 {
-    let mut n: u64 = 0;
-    let mut i = 0;
-    while i < s.len() {
-        let d = digit_of(s[i]);
-        if base <= d {
-            return Numeral::Bad;
+    let mut n: u32 = 0;
+    for &c in s {
+        let digit = digit_in(base, c)?;
+        n = n.checked_mul(base)?.checked_add(digit)?;
+        if most < n {
+            return None;
         }
-        n = joined(n, base, d);
-        if (most as u64) < n {
-            return Numeral::Bad;
-        }
-        i += 1;
     }
-    Numeral::Value(n as u32)
+    Some(n)
 }
 
 // Whether a field has one digit or more, and no leading zero.
 fn unpadded(s: &[u8]) -> bool
     ensures { result ≡ Numerals.unpadded s.now }
 {
-    if s.len() == 0 {
-        return false;
+    match s {
+        [] => false,
+        [_] => true,
+        [first, ..] => *first != b'0',
     }
-    if s.len() == 1 {
-        return true;
-    }
-    s[0] != 48
 }
 
 // The number that a field says in a base, of at most `most`.
-pub fn number_of(field: &[u8], base: u32, most: u32) -> Numeral
+pub fn number_of(field: &[u8], base: u32, most: u32) -> Option<u32>
     requires { Base base }
     ensures { result ≡ number_of base most field.now }
 {
-    if unpadded(field) {
-        return value_of(field, base, most);
+    if !unpadded(field) {
+        return None;
     }
-    Numeral::Bad
+    value_of(field, base, most)
 }
 
 // The byte of a digit.
@@ -108,7 +96,11 @@ fn digit_byte(d: u32) -> u8
     requires { d < 16 }
     ensures { result ≡ digit_byte d }
 {
-    if d < 10 { 48 + d as u8 } else { 87 + d as u8 }
+    if d < 10 {
+        b'0' + d as u8
+    } else {
+        b'a' + (d as u8 - 10)
+    }
 }
 
 // Lays a number at the end of a room that is long enough, its last digit first; the place of its first digit.
@@ -120,14 +112,26 @@ fn lay(room: &mut [u8], base: u32, n: u32) -> usize
 {
     let mut at = room.len();
     let mut rest = n;
-    while base <= rest {
+    loop {
         at -= 1;
         room[at] = digit_byte(rest % base);
         rest /= base;
+        if rest == 0 {
+            return at;
+        }
     }
-    at -= 1;
-    room[at] = digit_byte(rest);
-    at
+}
+
+// Puts a number of at most ten digits.
+fn put_numeral(out: &mut [u8], at: usize, base: u32, n: u32) -> usize
+    requires base { Base base }
+    requires few { length (numeral base n) ≤ 10 }
+    requires room { Fits base out.old at n }
+    ensures { Put (numeral base n) out.old at out.new result }
+{
+    let mut room = [0u8; 10];
+    let first = lay(&mut room, base, n);
+    puts::put_bytes(out, at, &room[first..])
 }
 
 // Puts a number in decimal.
@@ -135,9 +139,7 @@ pub fn put_decimal(out: &mut [u8], at: usize, n: u32) -> usize
     requires { Fits 10 out.old at n }
     ensures { Put (numeral 10 n) out.old at out.new result }
 {
-    let mut room = [0u8; 10];
-    let first = lay(&mut room, 10, n);
-    puts::put_bytes(out, at, &room[first..])
+    put_numeral(out, at, 10, n)
 }
 
 // Puts a number in hexadecimal.
@@ -145,7 +147,5 @@ pub fn put_hex(out: &mut [u8], at: usize, n: u32) -> usize
     requires { Fits 16 out.old at n }
     ensures { Put (numeral 16 n) out.old at out.new result }
 {
-    let mut room = [0u8; 8];
-    let first = lay(&mut room, 16, n);
-    puts::put_bytes(out, at, &room[first..])
+    put_numeral(out, at, 16, n)
 }

@@ -2,8 +2,8 @@
 use Rattle.fields.proofs.Values.{number_padded, number_valued}
 use Rattle.fields.proofs.number_of.Goals as goal
 
-pub returns-then-unpadded : goal.returns-then-unpadded
-returns-then-unpadded c = search number_valued
+pub returns-then-not-unpadded : goal.returns-then-not-unpadded
+returns-then-not-unpadded c = search number_padded
 
 pub returns : goal.returns
-returns c = search number_padded
+returns c = search number_valued

@@ -3,5 +3,5 @@ use native.Mathlib.Omega.{arith}
 use Rattle.fields.proofs.Puts.{sixteen, few_digits}
 use Rattle.fields.proofs.put_hex.Goals as goal
 
-pub lay-first-requires-clause-room : goal.lay-first-requires-clause-room
-lay-first-requires-clause-room c = few_digits sixteen 7 c.args.n (omega arith)
+pub put_numeral-requires-clause-few : goal.put_numeral-requires-clause-few
+put_numeral-requires-clause-few c = omega (arith, few_digits sixteen 7 c.args.n (omega arith))
