@@ -1,4 +1,5 @@
 -- The bytes that wait, in a run and as a value.
+use Rattle.std.specs.Prelude.{None, Some}
 use Prim.Native.Nat.{ℕ, suc, ◌+◌, ◌-◌, ◌≤◌, ◌<◌}
 use mathlib.Core.Path.{◌≡◌, refl, sym, ap, ◌∙◌}
 use mathlib.Core.List.{List, [], ◌∷◌, ◌++◌}
@@ -6,8 +7,7 @@ use lib.ListN.{length, get_or, drop, set, length-set, drop_of_length-le}
 use lib.Seq.{drop-cons}
 use native.Mathlib.Omega.{arith}
 use Rattle.refusal.specs.declared.Cause.{Cause}
-use Rattle.waits.specs.declared.Ill.{Ill}
-use Rattle.waits.specs.declared.Ill.TheVariants.{Nowhere, At}
+use Rattle.waits.specs.Stops.{Stop}
 use Rattle.key_state.specs.declared.Kept.{Kept}
 use Rattle.key_state.specs.declared.Kept.TheVariants.{Nothing, One, Two, Three}
 use Rattle.key_state.specs.Kept.{kept_bytes, to_kept}
@@ -39,11 +39,11 @@ three_here s i h =
     rw (y, z, drop-cons s i 0 (omega (arith, h)), drop-cons s (suc i) 0 (omega (arith, h)), drop-cons s (suc (suc i)) 0 (omega (arith, h)))
 
 -- after what was read
-pub kept_nowhere : {i : Ill} {k : Kept} (rest : List ℕ) → i ≡ Nowhere → k ≡ to_kept rest → k ≡ kept_after i rest
-kept_nowhere rest e q = q ∙ ap (λ (x : Ill). kept_after x rest) (sym e)
+pub kept_nowhere : {i : Stop} {k : Kept} (rest : List ℕ) → i ≡ None → k ≡ to_kept rest → k ≡ kept_after i rest
+kept_nowhere rest e q = q ∙ ap (λ (x : Stop). kept_after x rest) (sym e)
 
-pub kept_at : {i : Ill} {place : ℕ} {c : Cause} (rest : List ℕ) → i ≡ At place c → Nothing ≡ kept_after i rest
-kept_at rest e = ap (λ (x : Ill). kept_after x rest) (sym e)
+pub kept_at : {i : Stop} {place : ℕ} {c : Cause} (rest : List ℕ) → i ≡ Some (place, c) → Nothing ≡ kept_after i rest
+kept_at rest e = ap (λ (x : Stop). kept_after x rest) (sym e)
 
 -- INTO A RUN of three bytes or more
 put_as : {k d : Kept} {before after : List ℕ} {r : ℕ} → k ≡ d → PutKept d before after r → PutKept k before after r

@@ -11,8 +11,7 @@ ghost use Rattle.kept.specs.Puts.{PutKept};
 
 use key_state::{Kept, KeyState};
 use machine::{Mode, State};
-use places::Found;
-use waits::Ill;
+use refusal::Cause;
 
 // Before the first byte.
 pub fn begin() -> KeyState
@@ -27,9 +26,9 @@ pub fn begin() -> KeyState
         machine,
         kept: Kept::Nothing,
         count: 0,
-        ill: Ill::Nowhere,
-        double: Found::Nowhere,
-        mark: Found::Nowhere,
+        ill: None,
+        double: None,
+        mark: None,
     }
 }
 
@@ -92,13 +91,13 @@ fn kept_from(text: &[u8], at: usize) -> Kept
 }
 
 // What waits behind what was read: nothing, where an ill-formed sequence stands there.
-pub fn kept_after(ill: Ill, text: &[u8], at: usize) -> Kept
+pub fn kept_after(ill: Option<(usize, Cause)>, text: &[u8], at: usize) -> Kept
     requires { at ≤ length text.now }
     ensures { result ≡ kept_after ill (drop at text.now) }
 {
     match ill {
-        Ill::Nowhere => kept_from(text, at),
-        Ill::At(_, _) => Kept::Nothing,
+        None => kept_from(text, at),
+        Some(_) => Kept::Nothing,
     }
 }
 

@@ -1,4 +1,5 @@
 -- BYTES AND MORE BYTES (document 02, W13): to read them one after the other is to read them at once, from any state on.
+use Rattle.std.specs.Prelude.{Option, None, Some}
 use Prim.Native.Nat.{ℕ, ◌+◌, ◌-◌}
 use mathlib.Core.Path.{◌≡◌, refl, sym, ap, ◌∙◌}
 use mathlib.Core.List.{List, [], ◌∷◌, ◌++◌, append_assoc}
@@ -8,15 +9,13 @@ use native.Mathlib.Omega.{arith}
 use Rattle.refusal.specs.declared.Cause.{Cause}
 use Rattle.text.specs.Chars.{chars_after, chars}
 use Rattle.eaters.specs.Find.{nowhere, find}
-use Rattle.places.specs.declared.Found.{Found}
 use Rattle.token.specs.Lists.{Lists}
 use Rattle.line_ends.specs.LineEnds.{replaced, double_return}
 use Rattle.marks.specs.Marks.{hidden_mark}
 use Rattle.machine.specs.Streams.{Fed}
 use Rattle.machine.specs.declared.State.{State}
 use Rattle.machine.specs.Pieces.{feed}
-use Rattle.waits.specs.declared.Ill.{Ill}
-use Rattle.waits.specs.declared.Ill.TheVariants.{Nowhere, At}
+use Rattle.waits.specs.Stops.{Stop}
 use Rattle.waits.specs.declared.Ready.{Ready}
 use Rattle.waits.specs.Waits.{ready_of}
 use Rattle.waits.specs.Shifts.{ill_from}
@@ -33,13 +32,13 @@ no_more : (x : List ℕ) → x ++ [] ≡ x
 no_more [] = refl
 no_more (a ∷ x) = ap (λ (l : List ℕ). a ∷ l) (no_more x)
 
-module _ (L : Lists) (m : State) (base : ℕ) (double mark : Found) where
+module _ (L : Lists) (m : State) (base : ℕ) (double mark : Option ℕ) where
   -- a state by its parts, and what is read from it on
-  abbrev state_at : Kept → (count : ℕ) → Ill → KeyState
+  abbrev state_at : Kept → (count : ℕ) → Stop → KeyState
   state_at kept count ill = record { machine = m; kept = kept; count = count; ill = ill; double = double; mark = mark }
 
   -- what is read, by the part that can be read
-  abbrev read_by : (n : ℕ) (ill : Ill) (s : List ℕ) → Fed KeyState
+  abbrev read_by : (n : ℕ) (ill : Stop) (s : List ℕ) → Fed KeyState
   read_by n ill s =
       let fed = feed L m (replaced (chars (take n s))) in
       record {
@@ -55,12 +54,12 @@ module _ (L : Lists) (m : State) (base : ℕ) (double mark : Found) where
       }
 
 -- the two places of an ill-formed sequence
-ill_twice : (base n : ℕ) (i : Ill) → ill_from base (ill_from n i) ≡ ill_from (base + n) i
-ill_twice base n Nowhere = refl
-ill_twice base n (At p k) = ap (λ (q : ℕ). At q k) (omega arith)
+ill_twice : (base n : ℕ) (i : Stop) → ill_from base (ill_from n i) ≡ ill_from (base + n) i
+ill_twice base n None = refl
+ill_twice base n (Some (p, k)) = ap (λ (q : ℕ). Some (q, k)) (omega arith)
 
 -- MORE BYTES after bytes that are not ill-formed
-module _ (L : Lists) (m : State) (base : ℕ) (double mark : Found) (s t : List ℕ) (h : (ready_of s).ill ≡ Nowhere) where
+module _ (L : Lists) (m : State) (base : ℕ) (double mark : Option ℕ) (s t : List ℕ) (h : (ready_of s).ill ≡ None) where
   abbrev n : ℕ
   n = (ready_of s).bytes
 
@@ -108,35 +107,35 @@ module _ (L : Lists) (m : State) (base : ℕ) (double mark : Found) (s t : List 
 
   -- both parts at once
   at_once : read_by L m base double mark (n + i) (ill_from base (ill_from n (ready_of y).ill)) (s ++ t)
-      ≡ and_then (read_by L m base double mark n Nowhere s) (λ z. read_by L z.machine (base + n) z.double z.mark i (ill_from (base + n) (ready_of y).ill) y)
+      ≡ and_then (read_by L m base double mark n None s) (λ z. read_by L z.machine (base + n) z.double z.mark i (ill_from (base + n) (ready_of y).ill) y)
   at_once =
-      ap (λ (q : Ill). read_by L m base double mark (n + i) q (s ++ t)) (ill_twice base n (ready_of y).ill)
+      ap (λ (q : Stop). read_by L m base double mark (n + i) q (s ++ t)) (ill_twice base n (ready_of y).ill)
       ∙ ap (λ (x : List ℕ). made (feed L m (replaced (chars x))) (drop (n + i) (s ++ t)) (base + length (s ++ t)) (first_found double base (double_return x)) (first_found mark base (hidden_mark x))) taken
       ∙ ap (λ (f : Fed State). made f (drop (n + i) (s ++ t)) (base + length (s ++ t)) (first_found double base (double_return (X ++ Y))) (first_found mark base (hidden_mark (X ++ Y)))) fed
       ∙ ap (λ (d : List ℕ). made both d (base + length (s ++ t)) (first_found double base (double_return (X ++ Y))) (first_found mark base (hidden_mark (X ++ Y)))) left
       ∙ ap (λ (c : ℕ). made both (drop i y) c (first_found double base (double_return (X ++ Y))) (first_found mark base (hidden_mark (X ++ Y)))) counted
-      ∙ ap (λ (d : Found). made both (drop i y) (base + n + length y) d (first_found mark base (hidden_mark (X ++ Y)))) doubles
-      ∙ ap (λ (d : Found). made both (drop i y) (base + n + length y) (first_found (first_found double base (double_return X)) (base + n) (double_return Y)) d) marks
+      ∙ ap (λ (d : Option ℕ). made both (drop i y) (base + n + length y) d (first_found mark base (hidden_mark (X ++ Y)))) doubles
+      ∙ ap (λ (d : Option ℕ). made both (drop i y) (base + n + length y) (first_found (first_found double base (double_return X)) (base + n) (double_return Y)) d) marks
     where
       both : Fed State
       both = and_then (feed L m (replaced (chars X))) (λ z. feed L z (replaced (chars Y)))
 
-      made : Fed State → (rest : List ℕ) (count : ℕ) (double mark : Found) → Fed KeyState
+      made : Fed State → (rest : List ℕ) (count : ℕ) (double mark : Option ℕ) → Fed KeyState
       made f rest count d e =
           record { out = f.out; state = record { machine = f.state; kept = kept_after (ill_from (base + n) (ready_of y).ill) rest; count = count; ill = ill_from (base + n) (ready_of y).ill; double = d; mark = e } }
 
 -- A STATE BY WHAT IS KNOWN OF IT, where nothing was ill-formed
 module _ (L : Lists) (st : KeyState) (base : ℕ) (k t : List ℕ) where
-  from_here : st.ill ≡ Nowhere → kept_bytes st.kept ≡ k → base_of st ≡ base
+  from_here : st.ill ≡ None → kept_bytes st.kept ≡ k → base_of st ≡ base
       → read_on L st (kept_bytes st.kept ++ t) ≡ read_by L st.machine base st.double st.mark (ready_of (k ++ t)).bytes (ill_from base (ready_of (k ++ t)).ill) (k ++ t)
   from_here e q b =
-      ap (λ (x : List ℕ). by st.ill (base_of st) (x ++ t)) q ∙ ap (λ (i : Ill). by i (base_of st) (k ++ t)) e ∙ ap (λ (n : ℕ). by Nowhere n (k ++ t)) b
+      ap (λ (x : List ℕ). by st.ill (base_of st) (x ++ t)) q ∙ ap (λ (i : Stop). by i (base_of st) (k ++ t)) e ∙ ap (λ (n : ℕ). by None n (k ++ t)) b
     where
-      by : Ill → ℕ → List ℕ → Fed KeyState
+      by : Stop → ℕ → List ℕ → Fed KeyState
       by i n x = let part = ready_after i n x in read_by L st.machine n st.double st.mark part.bytes part.ill x
 
 -- AFTER AN ILL-FORMED SEQUENCE bytes are counted, and nothing else
-abbrev counted_on : KeyState → (ill : Ill) (count : ℕ) → KeyState
+abbrev counted_on : KeyState → (ill : Stop) (count : ℕ) → KeyState
 counted_on st ill count = record { machine = st.machine; kept = Nothing; count = count; ill = ill; double = st.double; mark = st.mark }
 
 no_double_lem : double_return [] ≡ nowhere
@@ -151,57 +150,57 @@ no_chars : chars [] ≡ []
 unfolding chars_after
 no_chars = refl
 
-module _ (L : Lists) (st : KeyState) (s : List ℕ) {place : ℕ} {c : Cause} (e : st.ill ≡ At place c) where
-  frozen : read_on L st s ≡ record { out = []; state = counted_on st (At place c) (base_of st + length s) }
+module _ (L : Lists) (st : KeyState) (s : List ℕ) {place : ℕ} {c : Cause} (e : st.ill ≡ Some (place, c)) where
+  frozen : read_on L st s ≡ record { out = []; state = counted_on st (Some (place, c)) (base_of st + length s) }
   frozen =
-      ap (λ (i : Ill). let part = ready_after i (base_of st) s in read_by L st.machine (base_of st) st.double st.mark part.bytes part.ill s) e
+      ap (λ (i : Stop). let part = ready_after i (base_of st) s in read_by L st.machine (base_of st) st.double st.mark part.bytes part.ill s) e
       ∙ ap (λ (x : List ℕ). made (feed L st.machine (replaced x)) (first_found st.double (base_of st) (double_return [])) (first_found st.mark (base_of st) (hidden_mark []))) no_chars
-      ∙ ap (λ (d : Found). made (record { out = []; state = st.machine }) d (first_found st.mark (base_of st) (hidden_mark []))) (ap (first_found st.double (base_of st)) no_double_lem ∙ found_none st.double (base_of st))
+      ∙ ap (λ (d : Option ℕ). made (record { out = []; state = st.machine }) d (first_found st.mark (base_of st) (hidden_mark []))) (ap (first_found st.double (base_of st)) no_double_lem ∙ found_none st.double (base_of st))
       ∙ ap (made (record { out = []; state = st.machine }) st.double) (ap (first_found st.mark (base_of st)) no_mark ∙ found_none st.mark (base_of st))
     where
-      made : Fed State → Found → Found → Fed KeyState
-      made f d m = record { out = f.out; state = record { machine = f.state; kept = Nothing; count = base_of st + length s; ill = At place c; double = d; mark = m } }
+      made : Fed State → Option ℕ → Option ℕ → Fed KeyState
+      made f d m = record { out = f.out; state = record { machine = f.state; kept = Nothing; count = base_of st + length s; ill = Some (place, c); double = d; mark = m } }
 
 -- nothing waits then: the bytes that come are counted
-frozen_more : (L : Lists) (st : KeyState) (t : List ℕ) {place : ℕ} {c : Cause} → st.ill ≡ At place c → st.kept ≡ Nothing → read_on L st (kept_bytes st.kept ++ t) ≡ record { out = []; state = counted_on st (At place c) (st.count + length t) }
+frozen_more : (L : Lists) (st : KeyState) (t : List ℕ) {place : ℕ} {c : Cause} → st.ill ≡ Some (place, c) → st.kept ≡ Nothing → read_on L st (kept_bytes st.kept ++ t) ≡ record { out = []; state = counted_on st (Some (place, c)) (st.count + length t) }
 frozen_more L st t {place} {c} e q =
     ap (λ (x : Kept). read_on L st (kept_bytes x ++ t)) q ∙ frozen L st t e
-    ∙ ap (λ (x : Kept). record { out = []; state = counted_on st (At place c) (st.count - length (kept_bytes x) + length t) }) q
-    ∙ (let z : st.count - 0 + length t ≡ st.count + length t = omega arith in ap (λ (n : ℕ). record { out = []; state = counted_on st (At place c) n }) z)
+    ∙ ap (λ (x : Kept). record { out = []; state = counted_on st (Some (place, c)) (st.count - length (kept_bytes x) + length t) }) q
+    ∙ (let z : st.count - 0 + length t ≡ st.count + length t = omega arith in ap (λ (n : ℕ). record { out = []; state = counted_on st (Some (place, c)) n }) z)
 
 -- BYTES AND MORE BYTES
 abbrev Joins : Lists → KeyState → (s t : List ℕ) → Type 0
 Joins L st s t = read_on L st (s ++ t) ≡ and_then (read_on L st s) (λ z. read_on L z (kept_bytes z.kept ++ t))
 
 -- after an ill-formed sequence
-ill_joins : (L : Lists) (st : KeyState) (s t : List ℕ) {place : ℕ} {c : Cause} → st.ill ≡ At place c → Joins L st s t
+ill_joins : (L : Lists) (st : KeyState) (s t : List ℕ) {place : ℕ} {c : Cause} → st.ill ≡ Some (place, c) → Joins L st s t
 ill_joins L st s t {place} {c} e =
     let z : base_of st + length (s ++ t) ≡ base_of st + length s + length t = omega (arith, length-append s t) in
-    frozen L st (s ++ t) e ∙ ap (λ (n : ℕ). record { out = []; state = counted_on st (At place c) n }) z
-    ∙ ap (λ (g : Fed KeyState). record { out = [] ++ g.out; state = g.state }) (sym (frozen_more L (counted_on st (At place c) (base_of st + length s)) t refl refl))
+    frozen L st (s ++ t) e ∙ ap (λ (n : ℕ). record { out = []; state = counted_on st (Some (place, c)) n }) z
+    ∙ ap (λ (g : Fed KeyState). record { out = [] ++ g.out; state = g.state }) (sym (frozen_more L (counted_on st (Some (place, c)) (base_of st + length s)) t refl refl))
     ∙ ap (λ (f : Fed KeyState). and_then f (λ x. read_on L x (kept_bytes x.kept ++ t))) (sym (frozen L st s e))
 
-module _ (L : Lists) (st : KeyState) (s t : List ℕ) (e : st.ill ≡ Nowhere) where
+module _ (L : Lists) (st : KeyState) (s t : List ℕ) (e : st.ill ≡ None) where
   abbrev base : ℕ
   base = base_of st
 
-  abbrev here : (n : ℕ) → Ill → List ℕ → Fed KeyState
+  abbrev here : (n : ℕ) → Stop → List ℕ → Fed KeyState
   here n i x = read_by L st.machine base st.double st.mark n i x
 
   -- by what can be read
   read_here : (x : List ℕ) {r : Ready} → ready_of x ≡ r → read_on L st x ≡ here r.bytes (ill_from base r.ill) x
-  read_here x q = ap (λ (y : Ill). let part = ready_after y base x in here part.bytes part.ill x) e ∙ ap (λ (r : Ready). here r.bytes (ill_from base r.ill) x) q
+  read_here x q = ap (λ (y : Stop). let part = ready_after y base x in here part.bytes part.ill x) e ∙ ap (λ (r : Ready). here r.bytes (ill_from base r.ill) x) q
 
   -- up to an ill-formed sequence
-  module _ {place : ℕ} {c : Cause} (h : (ready_of s).ill ≡ At place c) where
+  module _ {place : ℕ} {c : Cause} (h : (ready_of s).ill ≡ Some (place, c)) where
     abbrev bytes : ℕ
     bytes = (ready_of s).bytes
 
-    abbrev stop : Ill
-    stop = At (base + place) c
+    abbrev stop : Stop
+    stop = Some (base + place, c)
 
-    stop_ready : ready_of s ≡ record { bytes = bytes; ill = At place c }
-    stop_ready = ap (λ (i : Ill). record { bytes = bytes; ill = i }) h
+    stop_ready : ready_of s ≡ record { bytes = bytes; ill = Some (place, c) }
+    stop_ready = ap (λ (i : Stop). record { bytes = bytes; ill = i }) h
 
     abbrev made : List ℕ → (count : ℕ) → Fed KeyState
     made x count =
@@ -223,19 +222,19 @@ module _ (L : Lists) (st : KeyState) (s t : List ℕ) (e : st.ill ≡ Nowhere) w
         ∙ ap (λ (f : Fed KeyState). and_then f (λ x. read_on L x (kept_bytes x.kept ++ t))) (sym (read_here s stop_ready))
 
   -- where nothing is ill-formed
-  module _ (h : (ready_of s).ill ≡ Nowhere) where
+  module _ (h : (ready_of s).ill ≡ None) where
     abbrev read : ℕ
     read = (ready_of s).bytes
 
     abbrev rest : List ℕ
     rest = drop read s
 
-    read_ready : ready_of s ≡ record { bytes = read; ill = Nowhere }
-    read_ready = ap (λ (i : Ill). record { bytes = read; ill = i }) h
+    read_ready : ready_of s ≡ record { bytes = read; ill = None }
+    read_ready = ap (λ (i : Stop). record { bytes = read; ill = i }) h
 
     good_joins : Joins L st s t
     good_joins =
-        let f : Fed KeyState = here read Nowhere s in
+        let f : Fed KeyState = here read None s in
         let q : kept_bytes f.state.kept ≡ rest = kept_again rest (kept_few s h) in
         let b : base_of f.state ≡ base + read = omega (arith, ap length q, length-drop read s, ready_within s) in
         read_here (s ++ t) (ready_more s t h) ∙ at_once L st.machine base st.double st.mark s t h
@@ -246,10 +245,10 @@ module _ (L : Lists) (st : KeyState) (s t : List ℕ) (e : st.ill ≡ Nowhere) w
 pub read_more : (L : Lists) (st : KeyState) (s t : List ℕ) → read_on L st (s ++ t) ≡ and_then (read_on L st s) (λ z. read_on L z (kept_bytes z.kept ++ t))
 read_more L st s t = by_state st.ill refl
   where
-    by_bytes : st.ill ≡ Nowhere → (i : Ill) → (ready_of s).ill ≡ i → Joins L st s t
-    by_bytes e (At p c) h = bad_joins L st s t e h
-    by_bytes e Nowhere h = good_joins L st s t e h
+    by_bytes : st.ill ≡ None → (i : Stop) → (ready_of s).ill ≡ i → Joins L st s t
+    by_bytes e (Some (p, c)) h = bad_joins L st s t e h
+    by_bytes e None h = good_joins L st s t e h
 
-    by_state : (i : Ill) → st.ill ≡ i → Joins L st s t
-    by_state (At p c) e = ill_joins L st s t e
-    by_state Nowhere e = by_bytes e (ready_of s).ill refl
+    by_state : (i : Stop) → st.ill ≡ i → Joins L st s t
+    by_state (Some (p, c)) e = ill_joins L st s t e
+    by_state None e = by_bytes e (ready_of s).ill refl

@@ -1,4 +1,5 @@
 -- Two parts of a text that stand apart: characters, the machine, CR CR LF and hidden marks in the whole are those of the parts, one after the other.
+use Rattle.std.specs.Prelude.{Option, None, Some}
 use Prim.Native.Nat.{ℕ, ◌+◌, ◌≤◌}
 use mathlib.Core.Path.{◌≡◌, refl, sym, ap, ◌∙◌}
 use mathlib.Core.List.{List, [], ◌∷◌, ◌++◌}
@@ -8,8 +9,6 @@ use native.Mathlib.Omega.{arith}
 use Rattle.basics.specs.Choice.{pick}
 use Rattle.text.specs.Chars.{chars, size, width, WellFormed}
 use Rattle.eaters.specs.Find.{Place, at, nowhere, or_else}
-use Rattle.places.specs.declared.Found.{Found}
-use Rattle.places.specs.declared.Found.TheVariants as found
 use Rattle.places.specs.Shifts.{shifted}
 use Rattle.token.specs.Lists.{Lists}
 use Rattle.line_ends.specs.LineEnds.{replaced}
@@ -67,15 +66,15 @@ mark_parts s t w =
     ∙ ap (or_else (hidden_mark s)) (ap (λ (n : ℕ). mark_from n (chars t)) z ∙ mark_shift (length s) 0 (chars t))
 
 -- WHAT IS FOUND FIRST
-pub found_parts : (old : Found) (base n : ℕ) (p q : Place) → first_found old base (or_else p (shifted n q)) ≡ first_found (first_found old base p) (base + n) q
-found_parts (found.At k) base n p q = refl
-found_parts found.Nowhere base n (at k) q = refl
-found_parts found.Nowhere base n nowhere (at k) = ap found.At (omega arith)
-found_parts found.Nowhere base n nowhere nowhere = refl
+pub found_parts : (old : Option ℕ) (base n : ℕ) (p q : Place) → first_found old base (or_else p (shifted n q)) ≡ first_found (first_found old base p) (base + n) q
+found_parts (Some k) base n p q = refl
+found_parts None base n (at k) q = refl
+found_parts None base n nowhere (at k) = ap Some (omega arith)
+found_parts None base n nowhere nowhere = refl
 
-pub found_none : (old : Found) (base : ℕ) → first_found old base nowhere ≡ old
-found_none (found.At k) base = refl
-found_none found.Nowhere base = refl
+pub found_none : (old : Option ℕ) (base : ℕ) → first_found old base nowhere ≡ old
+found_none (Some k) base = refl
+found_none None base = refl
 
 -- BYTES THAT WAIT
 pub kept_again : (k : List ℕ) → length k ≤ 3 → kept_bytes (to_kept k) ≡ k

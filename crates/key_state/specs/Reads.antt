@@ -1,10 +1,8 @@
 -- What a piece of a text does to the state (document 02, W13). The bytes that wait are put before it; of all of them those that can be read now are keyed, and the rest waits.
-use Rattle.std.specs.Prelude.{ℕ, ◌+◌, ◌-◌, List, [], ◌++◌, length, take, drop, ltb}
+use Rattle.std.specs.Prelude.{ℕ, ◌+◌, ◌-◌, List, [], ◌++◌, length, take, drop, ltb, Option, None, Some}
 use Rattle.basics.specs.Choice.{pick}
 use Rattle.text.specs.Chars.{chars}
 use Rattle.eaters.specs.Find.{Place, or_else}
-use Rattle.places.specs.declared.Found.{Found}
-use Rattle.places.specs.declared.Found.TheVariants as found
 use Rattle.places.specs.Found.{found_at, place_of}
 use Rattle.places.specs.Shifts.{shifted}
 use Rattle.token.specs.Lists.{Lists}
@@ -13,8 +11,7 @@ use Rattle.marks.specs.Marks.{hidden_mark}
 use Rattle.machine.specs.Streams.{Fed}
 use Rattle.machine.specs.Pieces as machine
 use Rattle.machine.specs.Pieces.{feed}
-use Rattle.waits.specs.declared.Ill.{Ill}
-use Rattle.waits.specs.declared.Ill.TheVariants.{Nowhere, At}
+use Rattle.waits.specs.Stops.{Stop}
 use Rattle.waits.specs.declared.Ready.{Ready}
 use Rattle.waits.specs.Waits.{ready_of}
 use Rattle.waits.specs.Shifts.{ill_from}
@@ -25,24 +22,24 @@ use Rattle.key_state.specs.Kept.{kept_bytes, to_kept}
 
 -- BEFORE THE FIRST BYTE
 abbrev pub begin : KeyState
-begin = record { machine = machine.begin; kept = Nothing; count = 0; ill = Nowhere; double = found.Nowhere; mark = found.Nowhere }
+begin = record { machine = machine.begin; kept = Nothing; count = 0; ill = None; double = None; mark = None }
 
 -- how many bytes stand before those that wait
 abbrev pub base_of : KeyState → ℕ
 base_of st = st.count - length (kept_bytes st.kept)
 
 -- what can be read of bytes that stand at `base`: nothing, after an ill-formed sequence
-abbrev pub ready_after : Ill → (base : ℕ) → List ℕ → Ready
-ready_after (At place cause) base s = record { bytes = 0; ill = At place cause }
-ready_after Nowhere base s = record { bytes = (ready_of s).bytes; ill = ill_from base (ready_of s).ill }
+abbrev pub ready_after : Stop → (base : ℕ) → List ℕ → Ready
+ready_after (Some (place, cause)) base s = record { bytes = 0; ill = Some (place, cause) }
+ready_after None base s = record { bytes = (ready_of s).bytes; ill = ill_from base (ready_of s).ill }
 
 -- what waits then: nothing, after an ill-formed sequence
-abbrev pub kept_after : Ill → (rest : List ℕ) → Kept
-kept_after (At place cause) rest = Nothing
-kept_after Nowhere rest = to_kept rest
+abbrev pub kept_after : Stop → (rest : List ℕ) → Kept
+kept_after (Some (place, cause)) rest = Nothing
+kept_after None rest = to_kept rest
 
 -- the first one found: the one that was, or else the one that is found now, in bytes that stand at `base`
-abbrev pub first_found : Found → (base : ℕ) → Place → Found
+abbrev pub first_found : Option ℕ → (base : ℕ) → Place → Option ℕ
 first_found old base new = found_at (or_else (place_of old) (shifted base new))
 
 -- BYTES ARE READ, the first of which are those that waited: what is written of the key, in characters, and the state after them

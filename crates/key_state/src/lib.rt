@@ -3,8 +3,7 @@
 #![tactic(auto)]
 
 use machine::State;
-use places::Found;
-use waits::Ill;
+use refusal::Cause;
 
 // The bytes that wait: CR, CR CR, or the first bytes of a character.
 #[derive(Clone, Copy)]
@@ -22,7 +21,7 @@ pub struct KeyState {
     pub machine: State,
     pub kept: Kept,
     pub count: usize,
-    pub ill: Ill,
-    pub double: Found,
-    pub mark: Found,
+    pub ill: Option<(usize, Cause)>,
+    pub double: Option<usize>,
+    pub mark: Option<usize>,
 }

@@ -1,4 +1,5 @@
 -- Where CR CR LF stands, found from the left; and whether LF follows a CR, by the bytes.
+use Rattle.std.specs.Prelude.{None, Some}
 use Prim.Native.Nat.{ℕ, suc, ◌+◌, ◌-◌, ◌≤◌, ◌<◌}
 use mathlib.Core.Path.{◌≡◌, refl, sym, ap, ◌∙◌}
 use mathlib.Core.List.{List, [], ◌∷◌}
@@ -16,7 +17,6 @@ use Rattle.text.specs.Utf8.{decoded}
 use Rattle.text.specs.Chars.{chars}
 use Rattle.text.proofs.Places.{char_chars, end_chars, ill_chars}
 use Rattle.eaters.specs.Find.{at, nowhere, further, find}
-use Rattle.places.specs.declared.Found.TheVariants.{At, Nowhere}
 use Rattle.line_ends.specs.LineEnds.{cr_lf, double_at, double_return}
 use Rattle.places.specs.Found.{found_at}
 use Rattle.places.proofs.Searches.{NoneBefore, found_here, none_here, none_left}
@@ -57,7 +57,7 @@ module _ (s : List ℕ) (i : ℕ) (h : i + 2 < length s) where
   double_first q = sym (three_bytes ∙ rw (ne_eqb (get_or s i 0) 13 q))
 
 -- FROM THE LEFT
-pub double_found : (s : List ℕ) (i : ℕ) {last : ℕ} {t : Bool} → NoneBefore double_at s i → last ≡ length s - 2 → i < last → t ≡ double_at (drop i s) → t ≡ true → At i ≡ found_at (double_return s)
+pub double_found : (s : List ℕ) (i : ℕ) {last : ℕ} {t : Bool} → NoneBefore double_at s i → last ≡ length s - 2 → i < last → t ≡ double_at (drop i s) → t ≡ true → Some i ≡ found_at (double_return s)
 double_found s i u e h p q = sym (ap found_at (found_here double_at s i u (omega arith) (sym p ∙ q)))
 
 pub double_on : (s : List ℕ) (i : ℕ) {last : ℕ} {t : Bool} → NoneBefore double_at s i → last ≡ length s - 2 → i < last → t ≡ double_at (drop i s) → t ≡ false → NoneBefore double_at s (i + 1)
@@ -81,8 +81,8 @@ few_none (a ∷ b ∷ []) h = go (eqb a 13) (eqb b 13)
     go false false = refl
 few_none (a ∷ b ∷ c ∷ s) h = absurd (omega arith)
 
-pub double_few : (s : List ℕ) → length s < 3 → Nowhere ≡ found_at (double_return s)
+pub double_few : (s : List ℕ) → length s < 3 → None ≡ found_at (double_return s)
 double_few s h = sym (ap found_at (few_none s (omega arith)))
 
-pub double_none : (s : List ℕ) (i : ℕ) {last : ℕ} → NoneBefore double_at s i → 3 ≤ length s → last ≡ length s - 2 → last ≤ i → Nowhere ≡ found_at (double_return s)
+pub double_none : (s : List ℕ) (i : ℕ) {last : ℕ} → NoneBefore double_at s i → 3 ≤ length s → last ≡ length s - 2 → last ≤ i → None ≡ found_at (double_return s)
 double_none s i u m e h = sym (ap found_at (none_left double_at s i u (few_none (drop i s) (omega (arith, length-drop i s)))))

@@ -6,7 +6,6 @@ ghost use Rattle.text.specs.Chars.{chars};
 ghost use Rattle.line_ends.specs.LineEnds.{cr_lf, double_at, double_return};
 ghost use Rattle.places.specs.Found.{found_at};
 
-use places::Found;
 use text::{CodePoint, Decoded};
 
 // Whether a character is a CR that LF follows; `next` is the place past it.
@@ -38,19 +37,17 @@ fn double_at(text: &[u8], at: usize) -> bool
 }
 
 // Where the first CR CR LF of a text begins.
-pub fn double_return(text: &[u8]) -> Found
+pub fn double_return(text: &[u8]) -> Option<usize>
     ensures { result ≡ found_at (double_return text.now) }
 {
     if text.len() < 3 {
-        return Found::Nowhere;
+        return None;
     }
     let last = text.len() - 2;
-    let mut i: usize = 0;
-    while i < last {
+    for i in 0..last {
         if double_at(text, i) {
-            return Found::At(i);
+            return Some(i);
         }
-        i += 1;
     }
-    Found::Nowhere
+    None
 }

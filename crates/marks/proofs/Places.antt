@@ -1,4 +1,5 @@
 -- Where the first hidden mark stands, found from the left.
+use Rattle.std.specs.Prelude.{None, Some}
 use Prim.Native.Nat.{ℕ, ◌+◌, ◌≤◌, ◌<◌}
 use mathlib.Core.Path.{◌≡◌, sym, ap, ◌∙◌}
 use mathlib.Core.Bool.{Bool, true, false}
@@ -12,7 +13,6 @@ use Rattle.text.specs.Ascii.{AsciiRun}
 use Rattle.text.specs.Utf8.{decoded}
 use Rattle.text.specs.Chars.{WellFormed}
 use Rattle.text.proofs.Runs.{over_run}
-use Rattle.places.specs.declared.Found.TheVariants.{At, Nowhere}
 use Rattle.places.specs.Found.{found_at}
 use Rattle.places.proofs.Searches.{NoneBefore, found_here, none_here, none_left}
 use Rattle.marks.specs.Marks.{hidden, hidden_mark}
@@ -34,7 +34,7 @@ module _ (s : List ℕ) (i : ℕ) where
   mark_ill e k = sym (ap is_mark (sym e ∙ k))
 
 -- FROM THE LEFT
-pub mark_found : (s : List ℕ) (i : ℕ) {t : Bool} → WellFormed s → NoneBefore mark_at s i → i < length s → t ≡ mark_at (drop i s) → t ≡ true → At i ≡ found_at (hidden_mark s)
+pub mark_found : (s : List ℕ) (i : ℕ) {t : Bool} → WellFormed s → NoneBefore mark_at s i → i < length s → t ≡ mark_at (drop i s) → t ≡ true → Some i ≡ found_at (hidden_mark s)
 mark_found s i v u h p q = ap found_at (sym (found_here mark_at s i u h (sym p ∙ q)) ∙ mark_place s v)
 
 pub mark_on : (s : List ℕ) (i : ℕ) {t : Bool} → NoneBefore mark_at s i → i < length s → t ≡ mark_at (drop i s) → t ≡ false → NoneBefore mark_at s (i + 1)
@@ -43,5 +43,5 @@ mark_on s i u h p q = none_here mark_at s i u h (sym p ∙ q)
 pub mark_run : (s : List ℕ) {i : ℕ} (n : ℕ) → NoneBefore mark_at s i → AsciiRun s i n → NoneBefore mark_at s (i + n)
 mark_run s n u r = over_run s (NoneBefore mark_at s) (λ j h l u. none_here mark_at s j u h (other_at s j (λ e. omega (arith, l)))) n u r
 
-pub mark_none : (s : List ℕ) (i : ℕ) → WellFormed s → NoneBefore mark_at s i → length s ≤ i → Nowhere ≡ found_at (hidden_mark s)
+pub mark_none : (s : List ℕ) (i : ℕ) → WellFormed s → NoneBefore mark_at s i → length s ≤ i → None ≡ found_at (hidden_mark s)
 mark_none s i v u h = ap found_at (sym (none_left mark_at s i u (mark_empty (drop i s) (omega (arith, length-drop i s)))) ∙ mark_place s v)

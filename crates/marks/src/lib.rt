@@ -7,7 +7,6 @@ ghost use Rattle.places.specs.Found.{found_at};
 ghost use Rattle.marks.specs.Marks.{hidden, hidden_mark};
 ghost use Rattle.marks.specs.Front.{mark_at};
 
-use places::Found;
 use text::{CodePoint, Decoded};
 
 // Whether a character is a hidden direction mark.
@@ -37,7 +36,7 @@ fn mark_at(text: &[u8], at: usize) -> bool
 }
 
 // Where the first hidden direction mark of a text that was checked stands. Eight bytes of ASCII are taken in one turn, and else one byte.
-pub fn hidden_mark(text: &[u8]) -> Found
+pub fn hidden_mark(text: &[u8]) -> Option<usize>
     requires { WellFormed text.now }
     ensures { result ≡ found_at (hidden_mark text.now) }
 {
@@ -48,9 +47,9 @@ pub fn hidden_mark(text: &[u8]) -> Found
             continue;
         }
         if mark_at(text, at) {
-            return Found::At(at);
+            return Some(at);
         }
         at += 1;
     }
-    Found::Nowhere
+    None
 }

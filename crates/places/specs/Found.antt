@@ -1,13 +1,12 @@
 -- A place as the code says it.
+use Rattle.std.specs.Prelude.{ℕ, Option, None, Some}
 use Rattle.eaters.specs.Find.{Place, at, nowhere}
-use Rattle.places.specs.declared.Found.{Found}
-use Rattle.places.specs.declared.Found.TheVariants.{At, Nowhere}
 
-abbrev pub found_at : Place → Found
-found_at (at k) = At k
-found_at nowhere = Nowhere
+abbrev pub found_at : Place → Option ℕ
+found_at (at k) = Some k
+found_at nowhere = None
 
 -- and back
-abbrev pub place_of : Found → Place
-place_of (At k) = at k
-place_of Nowhere = nowhere
+abbrev pub place_of : Option ℕ → Place
+place_of (Some k) = at k
+place_of None = nowhere

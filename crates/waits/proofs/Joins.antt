@@ -1,4 +1,5 @@
 -- WELL-FORMED BYTES, AND MORE: characters, and what refuses the bytes, are those of the two parts.
+use Rattle.std.specs.Prelude.{Err}
 use Prim.Native.Nat.{ℕ, ◌+◌}
 use mathlib.Core.Path.{◌≡◌, refl, sym, ap, subst, ◌∙◌}
 use mathlib.Core.Bool.{true}
@@ -13,7 +14,6 @@ use Rattle.basics.proofs.Choices.{yes_or_no}
 use Rattle.refusal.specs.declared.Cause.{Cause}
 use Rattle.refusal.specs.declared.Cause.TheVariants.{Cut}
 use Rattle.refusal.specs.declared.Bad.TheVariants.{NotUtf8}
-use Rattle.refusal.specs.declared.Verdict.TheVariants.{Fine, Refused}
 use Rattle.text.specs.declared.Decoded.TheVariants.{Ill}
 use Rattle.text.specs.Utf8.{decoded}
 use Rattle.text.specs.Chars.{chars, size, encode, Scalars, nil, cons, WellFormed}
@@ -24,6 +24,7 @@ use Rattle.text.proofs.Causes.{ill_for_good}
 use Rattle.text.proofs.Positions.{boundary_parts, boundary_byte}
 use Rattle.token.proofs.Cover.{size_append}
 use Rattle.canon.proofs.Spelling.{encode_append}
+use Rattle.refusal.specs.Verdict.{fine}
 
 module _ (s t : List ℕ) (w : WellFormed s) where
   pub chars_append : chars (s ++ t) ≡ chars s ++ chars t
@@ -46,11 +47,11 @@ pub well_or_not : (s : List ℕ) → (WellFormed s) ⊎ (WellFormed s → ⊥)
 well_or_not s = ⊎_elim (λ e. inl (eqb-true (size (chars s)) (length s) e)) (λ e. inr (eqb-false (size (chars s)) (length s) e)) (yes_or_no (eqb (size (chars s)) (length s)))
 
 -- THE VERDICT
-pub verdict_well : (s : List ℕ) → WellFormed s → utf8_verdict s ≡ Fine
+pub verdict_well : (s : List ℕ) → WellFormed s → utf8_verdict s ≡ fine
 unfolding utf8_verdict
 verdict_well s w = rw (eq-eqb (size (chars s)) (length s) w)
 
-pub verdict_ill : (s : List ℕ) {k : Cause} → (WellFormed s → ⊥) → decoded (drop (size (chars s)) s) ≡ Ill k → utf8_verdict s ≡ Refused (NotUtf8 (size (chars s)) k)
+pub verdict_ill : (s : List ℕ) {k : Cause} → (WellFormed s → ⊥) → decoded (drop (size (chars s)) s) ≡ Ill k → utf8_verdict s ≡ Err (NotUtf8 (size (chars s)) k)
 unfolding utf8_verdict
 verdict_ill s n e = rw (ne_eqb (size (chars s)) (length s) n, e)
 

@@ -1,4 +1,5 @@
 -- WHAT CAN BE READ NOW is well-formed; what waits is at most three bytes; and when more bytes come, it is as if all had come at once.
+use Rattle.std.specs.Prelude.{None, Some}
 use Prim.Native.Nat.{ℕ, zero, suc, ◌+◌, ◌-◌, ◌≤◌, ◌<◌}
 use mathlib.Core.Path.{◌≡◌, refl, sym, ap, subst, ◌∙◌}
 use mathlib.Core.Bool.{Bool, true, false}
@@ -20,8 +21,8 @@ use Rattle.text.specs.Verdicts.{cause_of}
 use Rattle.text.proofs.Texts.{size_chars}
 use Rattle.text.proofs.Stops.{first_ill}
 use Rattle.token.specs.Names.{'carriage_return'}
-use Rattle.waits.specs.declared.Ill.TheVariants.{Nowhere, At}
 use Rattle.waits.specs.declared.Ready.{Ready}
+use Rattle.waits.specs.Stops.{Stop}
 use Rattle.waits.specs.Waits.{last_returns, stopped_at, ready_by, ready_of}
 use Rattle.waits.specs.Shifts.{ill_from}
 use Rattle.waits.proofs.Returns.{few_returns, last_other}
@@ -31,7 +32,7 @@ use Rattle.waits.proofs.Apart.{goes_on, Apart}
 use Rattle.waits.proofs.Joins.{size_more, well_append, ill_append, decoded_more, well_or_not, verdict_well, verdict_ill, front_well, ill_chars, ill_decoded, ill_still, take_well}
 
 -- BY CASES: the bytes are UTF-8, or they are not
-pub ready_well : (s : List ℕ) → WellFormed s → ready_of s ≡ record { bytes = length s - length (last_returns s); ill = Nowhere }
+pub ready_well : (s : List ℕ) → WellFormed s → ready_of s ≡ record { bytes = length s - length (last_returns s); ill = None }
 unfolding ready_of
 ready_well s w = ap (ready_by (length s - length (last_returns s))) (verdict_well s w)
 
@@ -41,9 +42,9 @@ ready_ill s n e = ap (ready_by (length s - length (last_returns s))) (verdict_il
 
 -- a view of them
 pub data Waiting (s : List ℕ) (r : Ready) : Type 0 where
-  fine : WellFormed s → r.bytes ≡ length s - length (last_returns s) → r.ill ≡ Nowhere → Waiting s r
-  cut : (WellFormed s → ⊥) → decoded (drop (size (chars s)) s) ≡ Ill Cut → r.bytes ≡ size (chars s) → r.ill ≡ Nowhere → Waiting s r
-  bad : (k : Cause) → (WellFormed s → ⊥) → decoded (drop (size (chars s)) s) ≡ Ill k → (k ≡ Cut → ⊥) → r.bytes ≡ size (chars s) → r.ill ≡ At (size (chars s)) k → Waiting s r
+  fine : WellFormed s → r.bytes ≡ length s - length (last_returns s) → r.ill ≡ None → Waiting s r
+  cut : (WellFormed s → ⊥) → decoded (drop (size (chars s)) s) ≡ Ill Cut → r.bytes ≡ size (chars s) → r.ill ≡ None → Waiting s r
+  bad : (k : Cause) → (WellFormed s → ⊥) → decoded (drop (size (chars s)) s) ≡ Ill k → (k ≡ Cut → ⊥) → r.bytes ≡ size (chars s) → r.ill ≡ Some ((size (chars s)), k) → Waiting s r
 
 pub waiting : (s : List ℕ) → Waiting s (ready_of s)
 waiting s = ⊎_elim (λ w. fine w (ap (λ (r : Ready). r.bytes) (ready_well s w)) (ap (λ (r : Ready). r.ill) (ready_well s w))) (λ n. go n (cause_of (decoded (drop (size (chars s)) s))) (first_ill s n)) (well_or_not s)
@@ -53,7 +54,7 @@ waiting s = ⊎_elim (λ w. fine w (ap (λ (r : Ready). r.bytes) (ready_well s w
     go n Cut e = cut n e (ap (λ (r : Ready). r.bytes) (ready_ill s n e)) (ap (λ (r : Ready). r.ill) (ready_ill s n e))
     go n Follow e = bad Follow n e (λ q. let z : ◌≡◌ {A = ℕ} 0 1 = cc in omega arith) (ap (λ (r : Ready). r.bytes) (ready_ill s n e)) (ap (λ (r : Ready). r.ill) (ready_ill s n e))
 
-no_place : {p : ℕ} {k : Cause} {A : Type 0} → At p k ≡ Nowhere → A
+no_place : {p : ℕ} {k : Cause} {A : Type 0} → ◌≡◌ {A = Stop} (Some (p, k)) None → A
 no_place e = let z : ◌≡◌ {A = ℕ} 0 1 = cc in absurd (omega arith)
 
 -- WITHIN THE BYTES
@@ -99,7 +100,7 @@ few_of none = omega arith
 few_of one = omega arith
 few_of two = omega arith
 
-pub kept_few : (s : List ℕ) → (ready_of s).ill ≡ Nowhere → length (drop (ready_of s).bytes s) ≤ 3
+pub kept_few : (s : List ℕ) → (ready_of s).ill ≡ None → length (drop (ready_of s).bytes s) ≤ 3
 kept_few s h = go (waiting s)
   where
     go : Waiting s (ready_of s) → length (drop (ready_of s).bytes s) ≤ 3
@@ -127,7 +128,7 @@ before_last s n h l e none m t = inl (ap last_returns (take_all n s (omega (arit
 before_last s n h l e one m t = inl (last_lone (take n s) (ap (λ (x : List ℕ). length (last_returns x)) (ap (λ (k : List ℕ). take n s ++ k) (sym e) ∙ take-append-drop n s) ∙ ap length l))
 before_last s n h l e two m t = inr (quiet_two m t)
 
-pub parts_apart : (s : List ℕ) → (ready_of s).ill ≡ Nowhere → (m : ℕ) (t : List ℕ) → Apart (take (ready_of s).bytes s) (take m (drop (ready_of s).bytes s ++ t))
+pub parts_apart : (s : List ℕ) → (ready_of s).ill ≡ None → (m : ℕ) (t : List ℕ) → Apart (take (ready_of s).bytes s) (take m (drop (ready_of s).bytes s ++ t))
 parts_apart s h m t = go (waiting s)
   where
     go : Waiting s (ready_of s) → Apart (take (ready_of s).bytes s) (take m (drop (ready_of s).bytes s ++ t))
@@ -152,7 +153,7 @@ ready_append s t w l = ⊎_elim whole broken (well_or_not t)
     whole : WellFormed t → ready_of (s ++ t) ≡ ready_from (length s) (ready_of t)
     whole v =
         let z : length (s ++ t) - length (last_returns (s ++ t)) ≡ length s + (length t - length (last_returns t)) = omega (arith, length-append s t, ap length l, few_returns t) in
-        ready_well (s ++ t) (well_append s t w v) ∙ ap (λ (n : ℕ). record { bytes = n; ill = Nowhere }) z ∙ ap (ready_from (length s)) (sym (ready_well t v))
+        ready_well (s ++ t) (well_append s t w v) ∙ ap (λ (n : ℕ). record { bytes = n; ill = None }) z ∙ ap (ready_from (length s)) (sym (ready_well t v))
 
     broken : (WellFormed t → ⊥) → ready_of (s ++ t) ≡ ready_from (length s) (ready_of t)
     broken n =
@@ -173,7 +174,7 @@ last_of_cut s k e =
     let h : 0x80 ≤ get_or k (length k - 1) 0 = (cut_bytes k e).high (length k - 1) (omega (arith, some)) in
     no_length (last_returns (s ++ k)) (last_other (s ++ k) (λ q. omega (arith, q, some, length-append s k)) (λ q. omega (arith, q, b, h)))
 
-pub ready_more : (s t : List ℕ) → (ready_of s).ill ≡ Nowhere → ready_of (s ++ t) ≡ ready_from (ready_of s).bytes (ready_of (drop (ready_of s).bytes s ++ t))
+pub ready_more : (s t : List ℕ) → (ready_of s).ill ≡ None → ready_of (s ++ t) ≡ ready_from (ready_of s).bytes (ready_of (drop (ready_of s).bytes s ++ t))
 ready_more s t h =
     ap ready_of parts ∙ ready_append X (k ++ t) (part_well s) (ap last_returns (sym parts) ∙ go (waiting s)) ∙ ap (λ (n : ℕ). ready_from n (ready_of (k ++ t))) (length-take-le (ready_of s).bytes s (ready_within s))
   where
@@ -197,7 +198,7 @@ ready_more s t h =
     go (bad c n d b e i) = no_place (sym i ∙ h)
 
 -- AN ILL-FORMED SEQUENCE STAYS
-pub ready_stays : (s t : List ℕ) {place : ℕ} {k : Cause} → (ready_of s).ill ≡ At place k → ready_of (s ++ t) ≡ ready_of s
+pub ready_stays : (s t : List ℕ) {place : ℕ} {k : Cause} → (ready_of s).ill ≡ Some (place, k) → ready_of (s ++ t) ≡ ready_of s
 ready_stays s t {place} {k} h = go (waiting s)
   where
     go : Waiting s (ready_of s) → ready_of (s ++ t) ≡ ready_of s

@@ -1,2 +1,3 @@
+pub mod Stops
 pub mod Waits
 pub mod Shifts

@@ -1,14 +1,13 @@
 -- What is found in a part of a text, as a place of the whole: the part begins `base` bytes further.
-use Rattle.std.specs.Prelude.{ℕ, ◌+◌}
+use Rattle.std.specs.Prelude.{ℕ, ◌+◌, None, Some}
 use Rattle.refusal.specs.declared.Bad.{Bad}
 use Rattle.refusal.specs.declared.Bad.TheVariants as bad
-use Rattle.waits.specs.declared.Ill.{Ill}
-use Rattle.waits.specs.declared.Ill.TheVariants.{Nowhere, At}
+use Rattle.waits.specs.Stops.{Stop}
 
 -- an ill-formed sequence
-abbrev pub ill_from : (base : ℕ) → Ill → Ill
-ill_from base Nowhere = Nowhere
-ill_from base (At place cause) = At (base + place) cause
+abbrev pub ill_from : (base : ℕ) → Stop → Stop
+ill_from base None = None
+ill_from base (Some (place, cause)) = Some (base + place, cause)
 
 -- a refusal: 2 alone has a place
 abbrev pub bad_from : (base : ℕ) → Bad → Bad

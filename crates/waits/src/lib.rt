@@ -2,22 +2,15 @@
 #![tactic(auto)]
 
 ghost use Rattle.std.specs.Prelude.{◌≡◌, length};
-ghost use Rattle.waits.specs.Waits.{last_returns, stopped_at, up_to, ready_of};
+ghost use Rattle.waits.specs.Waits.{last_returns, free_up_to, stopped_at, up_to, ready_of};
 
-use refusal::{Bad, Cause, Verdict};
+use refusal::{Bad, Cause};
 
-// An ill-formed sequence that no more bytes can mend: where it starts, and its cause.
-#[derive(Clone, Copy)]
-pub enum Ill {
-    Nowhere,
-    At(usize, Cause),
-}
-
-// How many bytes can be read now, and the ill-formed sequence that stands there, if one does.
+// How many bytes can be read now, and the ill-formed sequence that stands there, if one does that no more bytes can mend: its start and its cause.
 #[derive(Clone, Copy)]
 pub struct Ready {
     pub bytes: usize,
-    pub ill: Ill,
+    pub ill: Option<(usize, Cause)>,
 }
 
 // How many CRs end some bytes, two at most: what they are depends on the next byte.
@@ -40,22 +33,22 @@ fn last_returns(text: &[u8]) -> usize
     2
 }
 
+// So many bytes, and nothing that stops.
+fn free(bytes: usize) -> Ready
+    ensures { result ≡ free_up_to bytes }
+{
+    Ready { bytes, ill: None }
+}
+
 // Up to an ill-formed sequence. One that is cut off by the end waits for its rest.
 fn stopped(at: usize, cause: Cause) -> Ready
     ensures { result ≡ stopped_at at cause }
 {
     match cause {
-        Cause::Start => Ready {
+        Cause::Cut => free(at),
+        lasting => Ready {
             bytes: at,
-            ill: Ill::At(at, Cause::Start),
-        },
-        Cause::Cut => Ready {
-            bytes: at,
-            ill: Ill::Nowhere,
-        },
-        Cause::Follow => Ready {
-            bytes: at,
-            ill: Ill::At(at, Cause::Follow),
+            ill: Some((at, lasting)),
         },
     }
 }
@@ -65,15 +58,8 @@ fn up_to(bad: Bad) -> Ready
     ensures { result ≡ up_to bad }
 {
     match bad {
-        Bad::TooLong => Ready {
-            bytes: 0,
-            ill: Ill::Nowhere,
-        },
-        Bad::List(_, _) => Ready {
-            bytes: 0,
-            ill: Ill::Nowhere,
-        },
         Bad::NotUtf8(at, cause) => stopped(at, cause),
+        Bad::TooLong | Bad::List(_, _) => free(0),
     }
 }
 
@@ -82,10 +68,10 @@ pub fn readable(text: &[u8]) -> Ready
     ensures { result ≡ ready_of text.now }
 {
     match text::check_utf8(text) {
-        Verdict::Fine => Ready {
+        Ok(()) => Ready {
             bytes: text.len() - last_returns(text),
-            ill: Ill::Nowhere,
+            ill: None,
         },
-        Verdict::Refused(bad) => up_to(bad),
+        Err(bad) => up_to(bad),
     }
 }

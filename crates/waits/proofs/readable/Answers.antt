@@ -5,8 +5,8 @@ use Rattle.waits.proofs.readable.Goals as goal
 pub overflow_sub-result : goal.overflow_sub-result
 overflow_sub-result c = search returns_within
 
-pub returns-in-Fine : goal.returns-in-Fine
-returns-in-Fine c = search ready_fine
+pub returns-in-Ok : goal.returns-in-Ok
+returns-in-Ok c = search ready_fine
 
-pub returns-in-Refused : goal.returns-in-Refused
-returns-in-Refused c = search ready_refused
+pub returns-in-Err : goal.returns-in-Err
+returns-in-Err c = search ready_refused
