@@ -25,16 +25,16 @@ one_whitespace κs a r q x y p e = p ∙ sym e
 pub one_horizontal : (κs : _) (a : _) (r q : Bool) (x y : _) → horizontal.Post κs a r x → horizontal.Post κs a q y → r ≡ q
 one_horizontal κs a r q x y p e = p ∙ sym e
 
-pub one_start : (κs : _) (a : _) (r q : (Result Bool Bad)) (x y : _) → start.Post κs a r x → start.Post κs a q y → r ≡ q
+pub one_start : (κs : _) (a : _) (r q : Result Bool Bad) (x y : _) → start.Post κs a r x → start.Post κs a q y → r ≡ q
 one_start κs a r q x y p e = p ∙ sym e
 
-pub one_continue : (κs : _) (a : _) (r q : (Result Bool Bad)) (x y : _) → continue.Post κs a r x → continue.Post κs a q y → r ≡ q
+pub one_continue : (κs : _) (a : _) (r q : Result Bool Bad) (x y : _) → continue.Post κs a r x → continue.Post κs a q y → r ≡ q
 one_continue κs a r q x y p e = p ∙ sym e
 
-pub one_emoji : (κs : _) (a : _) (r q : (Result Bool Bad)) (x y : _) → emoji.Post κs a r x → emoji.Post κs a q y → r ≡ q
+pub one_emoji : (κs : _) (a : _) (r q : Result Bool Bad) (x y : _) → emoji.Post κs a r x → emoji.Post κs a q y → r ≡ q
 one_emoji κs a r q x y p e = p ∙ sym e
 
-pub one_ident : (κs : _) (a : _) (r q : (Result Bool Bad)) (x y : _) → ident.Post κs a r x → ident.Post κs a q y → r ≡ q
+pub one_ident : (κs : _) (a : _) (r q : Result Bool Bad) (x y : _) → ident.Post κs a r x → ident.Post κs a q y → r ≡ q
 one_ident κs a r q x y p e = p ∙ sym e
 
 pub one_digit : (κs : _) (a : _) (r q : Bool) (x y : _) → decimal.Post κs a r x → decimal.Post κs a q y → r ≡ q
