@@ -13,8 +13,7 @@ use Rattle.eaters.specs.Scan.{after, run, first_with}
 use Rattle.token.specs.Names.{is, 'double', '#'}
 use Rattle.cursor.specs.declared.Cursor.{Cursor}
 use Rattle.cursor.specs.declared.Repeated.{Repeated}
-use Rattle.cursor.specs.declared.Step.{Step}
-use Rattle.cursor.specs.declared.Step.TheVariants.{Got as Char, Over}
+use Rattle.std.specs.Prelude.{Option, None, Some}
 use Rattle.cursor.specs.Cursors.{rest, Seen}
 use Rattle.cursor.specs.Moved.{Moved, start, over, onward, arrive, left_of, no_more}
 use Rattle.cursor.specs.Ran.{left, Ran}
@@ -82,13 +81,13 @@ pub record Seeking (n : ℕ) (s : List ℕ) (a b : Cursor) : Type 0 where
 pub seek_start : (n : ℕ) (s : List ℕ) (a : Cursor) → Seeking n s a a
 seek_start n s a = record { moved = start s a; same = refl; word = refl }
 
-module _ (n : ℕ) {s : List ℕ} {a b : Cursor} {r : Step} (i : Seeking n s a b) (h : Seen s b r) where
-  pub seek_over : r ≡ Over → Ran (F n) s a b false
+module _ (n : ℕ) {s : List ℕ} {a b : Cursor} {r : Option (ℕ × Cursor)} (i : Seeking n s a b) (h : Seen s b r) where
+  pub seek_over : r ≡ None → Ran (F n) s a b false
   seek_over e =
       let z : F n (rest s b) ≡ record { took = 0; said = false } = ap (F n) (end_at e h) ∙ step_over n in
       record { moved = arrive i.moved (rw z at i.same); said = rw z at i.word }
 
-  module _ {c : ℕ} {d : Cursor} (e : r ≡ Char c d) where
+  module _ {c : ℕ} {d : Cursor} (e : r ≡ Some (c, d)) where
     -- one character more, and the search goes on
     on_by : F n (c ∷ rest s d) ≡ after (F n (rest s d)) → Seeking n s a d
     on_by q =

@@ -3,6 +3,7 @@ use Prim.Native.Nat.{ℕ}
 use mathlib.Core.Path.{◌≡◌, refl, ap, ◌∙◌}
 use mathlib.Core.Bool.{Bool, true, false, not}
 use mathlib.Core.List.{List}
+use mathlib.Core.Logic.{◌⊎◌, inl, inr}
 use lib.ListN.{get_or, drop}
 use borrow.Author.Tests.{ne_eqb}
 use Rattle.basics.specs.Choice.{and}
@@ -11,8 +12,7 @@ use Rattle.eaters.specs.Scan.{Turn, scan}
 use Rattle.token.specs.Names.{is, 'single', '\'}
 use Rattle.token.specs.Quotes.{double_turn, single_turn, single}
 use Rattle.cursor.specs.declared.Cursor.{Cursor}
-use Rattle.cursor.specs.declared.Step.{Step}
-use Rattle.cursor.specs.declared.Step.TheVariants.{Got, Over}
+use Rattle.std.specs.Prelude.{Option, None, Some}
 use Rattle.cursor.specs.Cursors.{rest, Seen}
 use Rattle.cursor.specs.Moved.{Moved}
 use Rattle.cursor.specs.Ran.{Ran}
@@ -21,11 +21,11 @@ use Rattle.cursor.proofs.Runs.{ran_give, ran_then, ran_eats, ran_both, ran_not_b
 use Rattle.cursor.proofs.Loops.{Inside, inside_on, inside_skip, inside_off, inside_over, inside_found}
 
 -- the text ends
-pub over_in : (t : ℕ → ℕ → ℕ → Turn) {s : List ℕ} {a b : Cursor} {r : Step} → r ≡ Over → Seen s b r → Inside t s a b 1 → Ran (scan t 0 1) s a b false
+pub over_in : (t : ℕ → ℕ → ℕ → Turn) {s : List ℕ} {a b : Cursor} {r : Option (ℕ × Cursor)} → r ≡ None → Seen s b r → Inside t s a b 1 → Ran (scan t 0 1) s a b false
 over_in t e h i = inside_over t i (end_at e h)
 
 -- DOUBLE QUOTES
-module _ {s : List ℕ} {a b n : Cursor} {c : ℕ} {r : Step} (x : r ≡ Got c n) (h : Seen s b r) (i : Inside double_turn s a b 1) where
+module _ {s : List ℕ} {a b n : Cursor} {c : ℕ} {r : Option (ℕ × Cursor)} (x : r ≡ Some (c, n)) (h : Seen s b r) (i : Inside double_turn s a b 1) where
   pub double_close : c ≡ 0x22 → Ran (scan double_turn 0 1) s a n true
   double_close p = inside_found double_turn (inside_on double_turn i (char_at x h) 0 (rw p))
 
@@ -33,17 +33,15 @@ module _ {s : List ℕ} {a b n : Cursor} {c : ℕ} {r : Step} (x : r ≡ Got c n
   double_other p q = inside_on double_turn i (char_at x h) 1 (rw (ne_eqb c 0x22 p, ne_eqb c 0x5C q))
 
   module _ (z : c ≡ 0x5C) {e : ℕ} (f : e ≡ get_or (rest s n) 0 0) where
-    pub double_back : {m : Cursor} → e ≡ 0x5C → Moved s n m (drop 1 (rest s n)) → Inside double_turn s a m 1
-    double_back q k = inside_skip double_turn i (char_at x h) 0 (rw (z, ← f, q)) k
-
-    pub double_escaped : {m : Cursor} → e ≡ 0x22 → Moved s n m (drop 1 (rest s n)) → Inside double_turn s a m 1
-    double_escaped q k = inside_skip double_turn i (char_at x h) 0 (rw (z, ← f, q)) k
+    pub double_escaped : {m : Cursor} → (e ≡ 0x5C) ⊎ ((e ≡ 0x5C → ⊥) × (e ≡ 0x22)) → Moved s n m (drop 1 (rest s n)) → Inside double_turn s a m 1
+    double_escaped (inl q) k = inside_skip double_turn i (char_at x h) 0 (rw (z, ← f, q)) k
+    double_escaped (inr q) k = inside_skip double_turn i (char_at x h) 0 (rw (z, ← f, q.1)) k
 
     pub double_lone : (e ≡ 0x5C → ⊥) → (e ≡ 0x22 → ⊥) → Inside double_turn s a n 1
     double_lone q k = inside_on double_turn i (char_at x h) 1 (rw (z, ← f, ne_eqb e 0x5C q, ne_eqb e 0x22 k))
 
 -- SINGLE QUOTES
-module _ {s : List ℕ} {a b n : Cursor} {c : ℕ} {r : Step} (x : r ≡ Got c n) (h : Seen s b r) (i : Inside single_turn s a b 1) where
+module _ {s : List ℕ} {a b n : Cursor} {c : ℕ} {r : Option (ℕ × Cursor)} (x : r ≡ Some (c, n)) (h : Seen s b r) (i : Inside single_turn s a b 1) where
   pub single_close : c ≡ 0x27 → Ran (scan single_turn 0 1) s a n true
   single_close p = inside_found single_turn (inside_on single_turn i (char_at x h) 0 (rw p))
 

@@ -1,13 +1,11 @@
 -- What the scans of raw strings promise.
-use Rattle.std.specs.Prelude.{ℕ, ◌≡◌, List, length}
+use Rattle.std.specs.Prelude.{ℕ, ◌≡◌, List, length, Option, None, Some}
 use Rattle.eaters.specs.Eat.{take_most, while_most}
 use Rattle.token.specs.Names.{is, '#'}
 use Rattle.cursor.specs.declared.Cursor.{Cursor}
 use Rattle.cursor.specs.declared.Repeated.{Repeated}
 use Rattle.cursor.specs.Cursors.{rest}
 use Rattle.cursor.specs.Moved.{Moved}
-use Rattle.token.specs.declared.HashCount.{HashCount}
-use Rattle.token.specs.declared.HashCount.TheVariants.{Of, NoCount}
 use Rattle.token.specs.declared.LiteralKind.{LiteralKind}
 use Rattle.token.specs.Literals.{Body}
 use Rattle.token.specs.RawStrings.{counted, uncounted, raw_string}
@@ -20,10 +18,10 @@ pub record CountedMost (n : ℕ) (s : List ℕ) (from : Cursor) (r : Repeated) :
   pub count : r.count ≡ length (take_most n (is '#') (rest s from))
 
 -- what a raw string's count makes of it
-abbrev pub raw_body : (HashCount → LiteralKind) → HashCount → Body
-raw_body kind (Of n) = counted kind n
-raw_body kind NoCount = uncounted kind
+abbrev pub raw_body : (Option ℕ → LiteralKind) → Option ℕ → Body
+raw_body kind (Some n) = counted kind n
+raw_body kind None = uncounted kind
 
 -- a raw string of any kind
 pub record RawRan (s : List ℕ) (from : Cursor) (r : RawQuoted) : Type 0 where
-  pub ran : (kind : HashCount → LiteralKind) → Ran (raw_string kind) s from r.next (raw_body kind r.count)
+  pub ran : (kind : Option ℕ → LiteralKind) → Ran (raw_string kind) s from r.next (raw_body kind r.count)

@@ -8,21 +8,14 @@ ghost use Rattle.token.specs.Names.{'double', '#'};
 ghost use Rattle.cursor.specs.Ran.{Ran};
 ghost use Rattle.quoted.specs.Raws.{CountedMost, RawRan};
 
-use cursor::{Cursor, Ended, Repeated, Step};
-use token::HashCount;
+use cursor::{Cursor, Ended, Repeated};
 
 // The rest of a double-quoted literal, after its quote: a quote ends it; a backslash takes a backslash or a quote with it.
 pub fn double_quoted_string(text: &[u8], from: Cursor) -> Ended
     ensures { Ran (scan double_turn 0 1) text.now from result.next result.terminated }
 {
     let mut cur = from;
-    loop {
-        let Step::Got(c, next) = cur.peek(text) else {
-            return Ended {
-                next: cur,
-                terminated: false,
-            };
-        };
+    while let Some((c, next)) = cur.peek(text) {
         if c == 0x22 {
             return Ended {
                 next,
@@ -32,12 +25,14 @@ pub fn double_quoted_string(text: &[u8], from: Cursor) -> Ended
         cur = next;
         if c == 0x5C {
             let e = cur.first(text);
-            if e == 0x5C {
-                cur = cur.bump(text);
-            } else if e == 0x22 {
+            if e == 0x5C || e == 0x22 {
                 cur = cur.bump(text);
             }
         }
+    }
+    Ended {
+        next: cur,
+        terminated: false,
     }
 }
 
@@ -48,7 +43,7 @@ fn single_rest(text: &[u8], from: Cursor) -> Ended
 {
     let mut cur = from;
     let terminated = loop {
-        let Step::Got(c, next) = cur.peek(text) else {
+        let Some((c, next)) = cur.peek(text) else {
             break false;
         };
         match c {
@@ -56,21 +51,15 @@ fn single_rest(text: &[u8], from: Cursor) -> Ended
                 cur = next;
                 break true;
             }
-            0x2F => {
-                break false;
-            }
+            0x2F => break false,
             0x0A => {
                 if cur.second(text) != 0x27 {
                     break false;
                 }
                 cur = next;
             }
-            0x5C => {
-                cur = next.bump(text);
-            }
-            _ => {
-                cur = next;
-            }
+            0x5C => cur = next.bump(text),
+            _ => cur = next,
         }
     };
     Ended {
@@ -83,18 +72,13 @@ fn single_rest(text: &[u8], from: Cursor) -> Ended
 pub fn single_quoted_string(text: &[u8], from: Cursor) -> Ended
     ensures { Ran single text.now from result.next result.terminated }
 {
-    let d = from.second(text);
-    if d != 0x27 {
-        return single_rest(text, from);
+    if from.second(text) == 0x27 && from.first(text) != 0x5C {
+        return Ended {
+            next: from.eat(text, 2),
+            terminated: true,
+        };
     }
-    let c = from.first(text);
-    if c == 0x5C {
-        return single_rest(text, from);
-    }
-    Ended {
-        next: from.eat(text, 2),
-        terminated: true,
-    }
+    single_rest(text, from)
 }
 
 // The hashes at a cursor, `most` at the most.
@@ -102,20 +86,16 @@ pub fn eat_hashes_most(text: &[u8], from: Cursor, most: usize) -> Repeated
     ensures { CountedMost most text.now from result }
 {
     let mut cur = from;
-    let mut count: usize = 0;
-    while count < most {
-        match cur.peek(text) {
-            Step::Got(c, next) => {
-                if c != 0x23 {
-                    return Repeated { next: cur, count };
-                }
-                cur = next;
-                count += 1;
-            }
-            Step::Over => return Repeated { next: cur, count },
+    for count in 0..most {
+        if cur.first(text) != 0x23 {
+            return Repeated { next: cur, count };
         }
+        cur = cur.bump(text);
     }
-    Repeated { next: cur, count }
+    Repeated {
+        next: cur,
+        count: most,
+    }
 }
 
 // The rest of a raw string, after its quote: the first quote with `count` hashes after it closes. Hashes that were counted are not read again.
@@ -123,13 +103,7 @@ pub fn raw_rest(text: &[u8], from: Cursor, count: usize) -> Ended
     ensures { Ran (first_with 'double' '#' count) text.now from result.next result.terminated }
 {
     let mut cur = from;
-    loop {
-        let Step::Got(c, next) = cur.peek(text) else {
-            return Ended {
-                next: cur,
-                terminated: false,
-            };
-        };
+    while let Some((c, next)) = cur.peek(text) {
         cur = next;
         if c == 0x22 {
             let hashes = eat_hashes_most(text, cur, count);
@@ -142,13 +116,17 @@ pub fn raw_rest(text: &[u8], from: Cursor, count: usize) -> Ended
             }
         }
     }
+    Ended {
+        next: cur,
+        terminated: false,
+    }
 }
 
 // The cursor past a raw string without its suffix, and its count of hashes.
 #[derive(Clone, Copy)]
 pub struct RawQuoted {
     pub next: Cursor,
-    pub count: HashCount,
+    pub count: Option<u8>,
 }
 
 // A raw string, after its r: hashes, a quote, and the first quote with as many hashes. No count for a bad start, for no end, and for more than 255.
@@ -158,30 +136,20 @@ pub fn raw_double_quoted_string(text: &[u8], from: Cursor) -> RawQuoted
     let hashes = from.eat_repeated(text, 0x23);
     let n = hashes.count;
     let quote = hashes.next;
-    let c = quote.first(text);
-    if c != 0x22 {
+    if quote.first(text) != 0x22 {
         return RawQuoted {
             next: quote.bump(text),
-            count: HashCount::NoCount,
+            count: None,
         };
     }
     let ended = raw_rest(text, quote.bump(text), n);
-    let next = ended.next;
-    let terminated = ended.terminated;
-    if terminated {
-        if n < 256 {
-            return RawQuoted {
-                next,
-                count: HashCount::Of(n as u8),
-            };
-        }
-        return RawQuoted {
-            next,
-            count: HashCount::NoCount,
-        };
-    }
+    let count = if ended.terminated && n < 256 {
+        Some(n as u8)
+    } else {
+        None
+    };
     RawQuoted {
-        next,
-        count: HashCount::NoCount,
+        next: ended.next,
+        count,
     }
 }

@@ -1,15 +1,11 @@
--- `quoted::raw_double_quoted_string` meets its contract. The hashes, the quote, the search, and which of them are counted (Opens).
-use Rattle.quoted.proofs.Opens.{bad_start, no_end, some_hashes, too_many}
+-- `quoted::raw_double_quoted_string` meets its contract. The hashes, the quote, the search, and whether they are counted (Opens).
+use Rattle.std.proofs.Common.{rules}
+use Rattle.quoted.proofs.Opens.{bad_start, raw_ran}
 use Rattle.quoted.proofs.raw_double_quoted_string.Goals as goal
+use Rattle.quoted.proofs.raw_double_quoted_string.Goals.{then-ended+then-n-lt256, else-ended}
 
-pub returns-then-c-ne34 : goal.returns-then-c-ne34
-returns-then-c-ne34 c = search bad_start
-
-pub returns-then-n-lt256 : goal.returns-then-n-lt256
-returns-then-n-lt256 c = search some_hashes
-
-pub returns-then-terminated : goal.returns-then-terminated
-returns-then-terminated c = search too_many
+pub returns-then-first-ne34 : goal.returns-then-first-ne34
+returns-then-first-ne34 c = search bad_start
 
 pub returns : goal.returns
-returns c = search no_end
+returns c = raw_ran c.eat_repeated-hashes.ensures c.first.ensures c.bump-2.ensures c.if-first-ne34.false c.raw_rest-ended.ensures (elim c.if-ended.branch [ then-ended+then-n-lt256 w ↦ search rules | else-ended w ↦ search rules ])

@@ -5,8 +5,8 @@ use Rattle.quoted.proofs.raw_rest.Goals as goal
 pub loop-c-init : goal.loop-c-init
 loop-c-init c = seek_start _ _ _
 
-pub returns-in_default : goal.returns-in_default
-returns-in_default c = search seek_over
+pub returns : goal.returns
+returns c = search seek_over
 
 pub returns-then-hashes-count : goal.returns-then-hashes-count
 returns-then-hashes-count c = search seek_found
