@@ -1,2 +1,1 @@
-mod Shapes
 mod Suffixes

@@ -9,8 +9,7 @@ use Rattle.text.specs.Chars.{size}
 use Rattle.eaters.specs.Eat.{Eater, Read, give, nothing, ◌>>=◌, ◌>>◌}
 use Rattle.eaters.specs.Scan.{scan}
 use Rattle.eaters.proofs.Fits.{Fits}
-use Rattle.token.specs.declared.HashCount.{HashCount}
-use Rattle.token.specs.declared.HashCount.TheVariants.{Of, NoCount}
+use Rattle.std.specs.Prelude.{Option, Some, None, is_some}
 use Rattle.token.specs.declared.LiteralKind.{LiteralKind}
 use Rattle.token.specs.declared.TokenKind.TheVariants as kind
 use Rattle.token.specs.Lists.{Lists}
@@ -65,13 +64,11 @@ pub number_in : (L : Lists) (c : ℕ) {s : List ℕ} {a b : Cursor} {k : Literal
 number_in L c p q = literal_in L (number L c) (fits_number L c) p q
 
 -- a raw string: with a count, a suffix is read
-module _ (L : Lists) (mk : HashCount → LiteralKind) {s : List ℕ} {a : Cursor} {x : RawQuoted} {k : LiteralKind} {r : Scanned} (p : RawRan s a x) (e : k ≡ mk x.count) where
-  raw_in : {n : HashCount} {t : Bool} → x.count ≡ n → raw_body mk n ≡ record { kind = mk n; suffixed = t } → SuffixRan L k t s x.next r → LiteralRan L (raw_string mk) s a r
-  raw_in {n} {t} h w q =
-      literal_in L (raw_string mk) (fits_raw mk) (ran_word (p.ran mk) (sym w ∙ sym (ap (raw_body mk) h))) (subst (λ (j : LiteralKind). SuffixRan L j t s x.next r) (e ∙ ap mk h) q)
+raw_word : (mk : Option ℕ → LiteralKind) (n : Option ℕ) → record { kind = mk n; suffixed = is_some n } ≡ raw_body mk n
+raw_word mk (Some n) = refl
+raw_word mk None = refl
 
-  pub raw_counted : {n : ℕ} → x.count ≡ Of n → SuffixRan L k true s x.next r → LiteralRan L (raw_string mk) s a r
-  raw_counted h = raw_in h refl
-
-  pub raw_uncounted : x.count ≡ NoCount → SuffixRan L k false s x.next r → LiteralRan L (raw_string mk) s a r
-  raw_uncounted h = raw_in h refl
+pub raw_in : (L : Lists) (mk : Option ℕ → LiteralKind) {s : List ℕ} {a : Cursor} {x : RawQuoted} {k : LiteralKind} {u : Bool} {r : Scanned} → RawRan s a x → k ≡ mk x.count → u ≡ is_some x.count → SuffixRan L k u s x.next r → LiteralRan L (raw_string mk) s a r
+raw_in L mk {s} {x = x} {k} {r = r} p e h q =
+    let y : SuffixRan L k (is_some x.count) s x.next r = subst (λ (t : Bool). SuffixRan L k t s x.next r) h q in
+    literal_in L (raw_string mk) (fits_raw mk) (ran_word (p.ran mk) (raw_word mk x.count)) (subst (λ (j : LiteralKind). SuffixRan L j (is_some x.count) s x.next r) e y)

@@ -1,7 +1,6 @@
 -- The forms of literals, and what their scans promise.
-use Rattle.std.specs.Prelude.{ℕ, ◌≡◌, Bool, true, false, List}
+use Rattle.std.specs.Prelude.{ℕ, ◌≡◌, Bool, true, false, List, Option}
 use Rattle.eaters.specs.Eat.{Eater}
-use Rattle.token.specs.declared.HashCount.{HashCount}
 use Rattle.token.specs.declared.LiteralKind.{LiteralKind}
 use Rattle.token.specs.declared.LiteralKind.TheVariants as kind
 use Rattle.token.specs.Lists.{Lists}
@@ -23,7 +22,7 @@ double_kind Plain t = kind.Str t
 double_kind Byte t = kind.ByteStr t
 double_kind C t = kind.CStr t
 
-abbrev pub raw_kind : Form → HashCount → LiteralKind
+abbrev pub raw_kind : Form → Option ℕ → LiteralKind
 raw_kind Plain n = kind.RawStr n
 raw_kind Byte n = kind.RawByteStr n
 raw_kind C n = kind.RawCStr n

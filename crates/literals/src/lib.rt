@@ -1,17 +1,16 @@
 // Literals with their suffixes: bytes and C strings are forms of the same scans, by a small choice. Each function is proved equal to its rule in the book.
 #![tactic(auto)]
 
-ghost use Rattle.std.specs.Prelude.{◌≡◌, []};
-ghost use Rattle.ranges.specs.Rules.{Good};
-ghost use Rattle.token.specs.Lists.{lent};
+ghost use Rattle.std.specs.Prelude.{◌≡◌};
 ghost use Rattle.token.specs.Numbers.{number};
 ghost use Rattle.token.specs.Quotes.{single_quoted, double_quoted};
 ghost use Rattle.token.specs.RawStrings.{raw_string};
 ghost use Rattle.literals.specs.Forms.{single_kind, double_kind, raw_kind, SuffixRan, LiteralRan};
 
 use cursor::{Cursor, Kinded, Scanned};
+use lists::Lists;
 use text::CodePoint;
-use token::{HashCount, LiteralKind};
+use token::LiteralKind;
 
 // The form of a string: plain, of bytes, of C.
 #[derive(Clone, Copy)]
@@ -26,9 +25,10 @@ fn single_kind(byte: bool, terminated: bool) -> LiteralKind
     ensures { result ≡ single_kind byte terminated }
 {
     if byte {
-        return LiteralKind::Byte { terminated };
+        LiteralKind::Byte { terminated }
+    } else {
+        LiteralKind::Char { terminated }
     }
-    LiteralKind::Char { terminated }
 }
 
 fn double_kind(form: Form, terminated: bool) -> LiteralKind
@@ -41,7 +41,7 @@ fn double_kind(form: Form, terminated: bool) -> LiteralKind
     }
 }
 
-fn raw_kind(form: Form, n_hashes: HashCount) -> LiteralKind
+fn raw_kind(form: Form, n_hashes: Option<u8>) -> LiteralKind
     ensures { result ≡ raw_kind form n_hashes }
 {
     match form {
@@ -57,94 +57,52 @@ fn eat_literal_suffix(
     kind: LiteralKind,
     at: Cursor,
     suffixed: bool,
-    starts: &[u32],
-    continues: &[u32],
+    lists: &Lists,
 ) -> Scanned
-    requires { Good starts.now × Good continues.now }
-    ensures { SuffixRan (lent starts.now continues.now []) kind suffixed text.now at result }
+    ensures { SuffixRan lists.now kind suffixed text.now at result }
 {
-    if suffixed {
-        return Scanned {
-            kind: Kinded::Literal(kind, at),
-            next: words::eat_identifier(text, at, starts, continues),
-        };
-    }
+    let next = if suffixed {
+        words::eat_identifier(text, at, lists)
+    } else {
+        at
+    };
     Scanned {
         kind: Kinded::Literal(kind, at),
-        next: at,
+        next,
     }
 }
 
 // A single-quoted literal, after its quote.
-pub fn single_literal(
-    text: &[u8],
-    from: Cursor,
-    byte: bool,
-    starts: &[u32],
-    continues: &[u32],
-) -> Scanned
-    requires { Good starts.now × Good continues.now }
-    ensures { LiteralRan (lent starts.now continues.now []) (single_quoted (single_kind byte)) text.now from result }
+pub fn single_literal(text: &[u8], from: Cursor, byte: bool, lists: &Lists) -> Scanned
+    ensures { LiteralRan lists.now (single_quoted (single_kind byte)) text.now from result }
 {
     let ended = quoted::single_quoted_string(text, from);
-    let terminated = ended.terminated;
-    let next = ended.next;
-    let kind = single_kind(byte, terminated);
-    eat_literal_suffix(text, kind, next, terminated, starts, continues)
+    let kind = single_kind(byte, ended.terminated);
+    eat_literal_suffix(text, kind, ended.next, ended.terminated, lists)
 }
 
 // A double-quoted literal, after its quote.
-pub fn double_literal(
-    text: &[u8],
-    from: Cursor,
-    form: Form,
-    starts: &[u32],
-    continues: &[u32],
-) -> Scanned
-    requires { Good starts.now × Good continues.now }
-    ensures { LiteralRan (lent starts.now continues.now []) (double_quoted (double_kind form)) text.now from result }
+pub fn double_literal(text: &[u8], from: Cursor, form: Form, lists: &Lists) -> Scanned
+    ensures { LiteralRan lists.now (double_quoted (double_kind form)) text.now from result }
 {
     let ended = quoted::double_quoted_string(text, from);
-    let terminated = ended.terminated;
-    let next = ended.next;
-    let kind = double_kind(form, terminated);
-    eat_literal_suffix(text, kind, next, terminated, starts, continues)
+    let kind = double_kind(form, ended.terminated);
+    eat_literal_suffix(text, kind, ended.next, ended.terminated, lists)
 }
 
 // A raw string, after its r. A suffix is read only after one with a count.
-pub fn raw_literal(
-    text: &[u8],
-    from: Cursor,
-    form: Form,
-    starts: &[u32],
-    continues: &[u32],
-) -> Scanned
-    requires { Good starts.now × Good continues.now }
-    ensures { LiteralRan (lent starts.now continues.now []) (raw_string (raw_kind form)) text.now from result }
+pub fn raw_literal(text: &[u8], from: Cursor, form: Form, lists: &Lists) -> Scanned
+    ensures { LiteralRan lists.now (raw_string (raw_kind form)) text.now from result }
 {
     let raw = quoted::raw_double_quoted_string(text, from);
-    let count = raw.count;
-    let next = raw.next;
-    let kind = raw_kind(form, count);
-    match count {
-        HashCount::Of(_) => eat_literal_suffix(text, kind, next, true, starts, continues),
-        HashCount::NoCount => eat_literal_suffix(text, kind, next, false, starts, continues),
-    }
+    let kind = raw_kind(form, raw.count);
+    eat_literal_suffix(text, kind, raw.next, raw.count.is_some(), lists)
 }
 
 // A number, after its first digit. A suffix may follow every number.
-pub fn number_literal(
-    text: &[u8],
-    from: Cursor,
-    first: CodePoint,
-    starts: &[u32],
-    continues: &[u32],
-) -> Scanned
-    requires { Good starts.now × Good continues.now }
-    ensures { LiteralRan (lent starts.now continues.now []) (number (lent starts.now [] []) first) text.now from result }
+pub fn number_literal(text: &[u8], from: Cursor, first: CodePoint, lists: &Lists) -> Scanned
+    ensures { LiteralRan lists.now (number lists.now first) text.now from result }
 {
-    let numeral = numerals::number(text, from, first, starts);
-    let kind = numeral.kind;
-    let next = numeral.next;
-    eat_literal_suffix(text, kind, next, true, starts, continues)
+    let numeral = numerals::number(text, from, first, lists);
+    eat_literal_suffix(text, numeral.kind, numeral.next, true, lists)
 }

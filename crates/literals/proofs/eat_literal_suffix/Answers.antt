@@ -5,5 +5,5 @@ use Rattle.literals.proofs.eat_literal_suffix.Goals as goal
 pub returns-then-suffixed : goal.returns-then-suffixed
 returns-then-suffixed c = search suffix_read
 
-pub returns : goal.returns
-returns c = search suffix_none
+pub returns-else-suffixed : goal.returns-else-suffixed
+returns-else-suffixed c = search suffix_none
