@@ -12,10 +12,7 @@ use Rattle.fields.specs.Pieces.{Parted, parts, parted}
 use Rattle.fields.proofs.Cuts.{front}
 use Rattle.lists_file.specs.declared.Version.{Version}
 use Rattle.lists_file.specs.declared.Entry.{Entry}
-use Rattle.lists_file.specs.declared.First.{First}
-use Rattle.lists_file.specs.declared.First.TheVariants as first
-use Rattle.lists_file.specs.declared.Line.{Line}
-use Rattle.lists_file.specs.declared.Line.TheVariants as line
+use Rattle.std.specs.Prelude.{Option, None, Some}
 use Rattle.lists_file.specs.Names.{newline}
 use Rattle.lists_file.specs.File.{record_text, line, group_lines, Pairs, no_pair, pair}
 use Rattle.lists_file.specs.Lines.{record_of, version_of}
@@ -33,7 +30,7 @@ parted_line p t h = ap (parted newline) (append_assoc p (newline ∷ []) t) ∙ 
 -- A LINE, whatever follows it: the reader stops there, or goes on after a record, which is not of an earlier list
 pub data Step (index group : ℕ) (v : Version) (L : Lists) (text : List ℕ) : Type 0 where
   stops : ((lines : List (List ℕ)) (rest : List ℕ) → load_from index group v L (text ∷ lines) rest ≡ bad_line index) → Step index group v L text
-  goes_on : (e : Entry) → record_of text ≡ line.Record e → group ≤ e.which
+  goes_on : (e : Entry) → record_of text ≡ Some e → group ≤ e.which
       → ((lines : List (List ℕ)) (rest : List ℕ) → load_from index group v L (text ∷ lines) rest ≡ load_from (suc index) e.which v (added e.which e.low e.high L) lines rest)
       → Step index group v L text
 
@@ -41,28 +38,28 @@ pub step : (index group : ℕ) (v : Version) (L : Lists) (text : List ℕ) → S
 unfolding load_from
 step index group v L text = by_line (record_of text) refl
   where
-    by_group : (e : Entry) → record_of text ≡ line.Record e → (t : Bool) → ltb e.which group ≡ t → Step index group v L text
+    by_group : (e : Entry) → record_of text ≡ Some e → (t : Bool) → ltb e.which group ≡ t → Step index group v L text
     by_group e r true l = stops (λ lines rest. rw (r, load_from, l) refl)
     by_group e r false l = goes_on e r (ltb-false e.which group l) (λ lines rest. rw (r, load_from, l) refl)
 
-    by_line : (r : Line) → record_of text ≡ r → Step index group v L text
-    by_line (line.Record e) r = by_group e r (ltb e.which group) refl
-    by_line line.Bad r = stops (λ lines rest. rw (r, load_from) refl)
+    by_line : (r : Option Entry) → record_of text ≡ r → Step index group v L text
+    by_line (Some e) r = by_group e r (ltb e.which group) refl
+    by_line None r = stops (λ lines rest. rw (r, load_from) refl)
 
 -- the first line
 pub data FirstStep (text : List ℕ) : Type 0 where
   first_stops : ((lines : List (List ℕ)) (rest : List ℕ) → load_lines (text ∷ lines) rest ≡ bad_line 0) → FirstStep text
-  first_goes_on : (v : Version) → version_of text ≡ first.Version v → ((lines : List (List ℕ)) (rest : List ℕ) → load_lines (text ∷ lines) rest ≡ load_from 1 0 v none lines rest) → FirstStep text
+  first_goes_on : (v : Version) → version_of text ≡ Some v → ((lines : List (List ℕ)) (rest : List ℕ) → load_lines (text ∷ lines) rest ≡ load_from 1 0 v none lines rest) → FirstStep text
 
 pub first_step : (text : List ℕ) → FirstStep text
 first_step text = by_line (version_of text) refl
   where
-    by_line : (r : First) → version_of text ≡ r → FirstStep text
-    by_line (first.Version v) r = first_goes_on v r (λ lines rest. rw (r, load_lines) refl)
-    by_line first.Bad r = first_stops (λ lines rest. rw (r, load_lines) refl)
+    by_line : (r : Option Version) → version_of text ≡ r → FirstStep text
+    by_line (Some v) r = first_goes_on v r (λ lines rest. rw (r, load_lines) refl)
+    by_line None r = first_stops (λ lines rest. rw (r, load_lines) refl)
 
 -- A RECORD is added, unless it is of an earlier list
-pub load_record : (index group : ℕ) (v : Version) (L : Lists) (p t : List ℕ) {e : Entry} → is_in p newline ≡ false → record_of p ≡ line.Record e → group ≤ e.which
+pub load_record : (index group : ℕ) (v : Version) (L : Lists) (p t : List ℕ) {e : Entry} → is_in p newline ≡ false → record_of p ≡ Some e → group ≤ e.which
     → load_at index group v L (line p ++ t) ≡ load_at (suc index) e.which v (added e.which e.low e.high L) t
 unfolding load_from
 load_record index group v L p t {e} h r g =

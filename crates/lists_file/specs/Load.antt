@@ -1,11 +1,9 @@
 -- WHAT A FILE HOLDS (document 02, W1): a version and three lists, or the number, from 0, of its first bad line.
-use Rattle.std.specs.Prelude.{ℕ, zero, suc, List, [], ◌∷◌, ◌++◌, ltb}
+use Rattle.std.specs.Prelude.{ℕ, None, Some, zero, suc, List, [], ◌∷◌, ◌++◌, ltb}
 use Rattle.basics.specs.Choice.{pick}
 use Rattle.token.specs.Lists.{Lists, lent, none}
 use Rattle.fields.specs.Pieces.{parted}
 use Rattle.lists_file.specs.declared.Version.{Version}
-use Rattle.lists_file.specs.declared.First.TheVariants as first
-use Rattle.lists_file.specs.declared.Line.TheVariants as line
 use Rattle.lists_file.specs.Names.{newline}
 use Rattle.lists_file.specs.Lines.{record_of, version_of}
 
@@ -26,8 +24,8 @@ load_from index group v L [] [] = loaded v L
 load_from index group v L [] (c ∷ rest) = bad_line index
 load_from index group v L (text ∷ lines) rest =
     elim (record_of text) [
-      | line.Record e ↦ pick (ltb e.which group) (bad_line index) (load_from (suc index) e.which v (added e.which e.low e.high L) lines rest)
-      | line.Bad ↦ bad_line index
+      | Some e ↦ pick (ltb e.which group) (bad_line index) (load_from (suc index) e.which v (added e.which e.low e.high L) lines rest)
+      | None ↦ bad_line index
     ]
 
 -- the same of bytes
@@ -37,7 +35,7 @@ load_at index group v L s = load_from index group v L (parted newline s).ended (
 -- the first line is there, and is that of a version
 abbrev pub load_lines : (lines : List (List ℕ)) → (rest : List ℕ) → Read
 load_lines [] rest = bad_line 0
-load_lines (text ∷ lines) rest = elim (version_of text) [ first.Version v ↦ load_from 1 0 v none lines rest | first.Bad ↦ bad_line 0 ]
+load_lines (text ∷ lines) rest = elim (version_of text) [ Some v ↦ load_from 1 0 v none lines rest | None ↦ bad_line 0 ]
 
 unfoldable pub load : (file : List ℕ) → Read
 load file = load_lines (parted newline file).ended (parted newline file).rest

@@ -1,6 +1,6 @@
 -- Refusal 3 for the three lists of a file, as document 01 has it ("When the build says no"). `limit` is the most pairs of a list.
 use Rattle.std.specs.Prelude.{ℕ}
-use Rattle.refusal.specs.declared.Verdict.{Verdict}
+use Rattle.refusal.specs.Verdict.{Verdict}
 use Rattle.refusal.specs.Order.{lists_in_order}
 use Rattle.ranges.specs.Rules.{list_verdict}
 use Rattle.token.specs.Lists.{Lists}

@@ -4,10 +4,8 @@
 // stands between two fields, records come in the order of these names, and every line is ended by LF.
 #![tactic(auto)]
 
-ghost use Rattle.std.specs.Prelude.{◌≤◌, ◌≡◌};
-ghost use Rattle.lists_file.specs.Lines.{which_of, entry_of, pair_of, record_of, version_from, minor_of, major_of, version_of, Sixteen};
-
-use fields::Numeral;
+ghost use Rattle.std.specs.Prelude.{◌≡◌};
+ghost use Rattle.lists_file.specs.Lines.{which_of, record_of, decimal, version_of};
 
 // A Unicode version, as 15.0.0.
 #[derive(Clone, Copy)]
@@ -25,148 +23,56 @@ pub struct Entry {
     pub high: u32,
 }
 
-// What the first line says.
-#[derive(Clone, Copy)]
-pub enum First {
-    Version(Version),
-    Bad,
-}
-
-// What another line says.
-#[derive(Clone, Copy)]
-pub enum Line {
-    Record(Entry),
-    Bad,
-}
-
-// The list of a name; 3 where it is the name of none.
-fn which_of(name: &[u8]) -> usize
+// The list of a name; none where it is the name of none. By tests and not by a match on the names, which leaves a goal for every byte at which a text can differ.
+fn which_of(name: &[u8]) -> Option<usize>
     ensures { result ≡ which_of name.now }
 {
     if fields::is_word(name, b"start") {
-        return 0;
+        return Some(0);
     }
     if fields::is_word(name, b"continue") {
-        return 1;
+        return Some(1);
     }
     if fields::is_word(name, b"emoji") {
-        return 2;
+        return Some(2);
     }
-    3
+    None
 }
 
-// A record of what its three fields say.
-fn entry_of(which: usize, low: Numeral, high: Numeral) -> Line
-    ensures { result ≡ entry_of which low high }
-{
-    if 2 < which {
-        return Line::Bad;
-    }
-    let Numeral::Value(low) = low else {
-        return Line::Bad;
-    };
-    let Numeral::Value(high) = high else {
-        return Line::Bad;
-    };
-    Line::Record(Entry { which, low, high })
-}
-
-// The pair of a record: up to a tab low, and the rest is high.
-fn pair_of(which: usize, more: &[u8]) -> Line
-    ensures { result ≡ pair_of which more.now }
-{
-    let end = fields::find(more, 0, 9);
-    if more.len() <= end {
-        return Line::Bad;
-    }
-    let start = end + 1;
-    let low = fields::number_of(&more[..end], 16, 0xFFFFFF);
-    let high = fields::number_of(&more[start..], 16, 0xFFFFFF);
-    entry_of(which, low, high)
-}
-
-// What a line after the first says: up to a tab the name of a list, and then a pair.
-pub fn record_of(line: &[u8]) -> Line
+// What a line after the first says: up to a tab the name of a list, up to a tab low, and the rest is high. None where it is bad.
+pub fn record_of(line: &[u8]) -> Option<Entry>
     ensures { result ≡ record_of line.now }
 {
-    let end = fields::find(line, 0, 9);
-    if line.len() <= end {
-        return Line::Bad;
-    }
-    let start = end + 1;
-    let which = which_of(&line[..end]);
-    pair_of(which, &line[start..])
-}
-
-// A number of a version.
-fn sixteen(n: u32) -> u16
-    requires { n ≤ 65535 }
-    ensures { result ≡ n }
-{
-    n as u16
-}
-
-// A version of what its three fields say.
-fn version_from(major: Numeral, minor: Numeral, update: Numeral) -> First
-    requires { Sixteen major × (Sixteen minor × Sixteen update) }
-    ensures { result ≡ version_from major minor update }
-{
-    let Numeral::Value(major) = major else {
-        return First::Bad;
-    };
-    let Numeral::Value(minor) = minor else {
-        return First::Bad;
-    };
-    let Numeral::Value(update) = update else {
-        return First::Bad;
-    };
-    First::Version(Version {
-        major: sixteen(major),
-        minor: sixteen(minor),
-        update: sixteen(update),
+    let (name, pair) = fields::cut(line, b'\t')?;
+    let (low, high) = fields::cut(pair, b'\t')?;
+    Some(Entry {
+        which: which_of(name)?,
+        low: fields::number_of(low, 16, 0xFFFFFF)?,
+        high: fields::number_of(high, 16, 0xFFFFFF)?,
     })
 }
 
-// The last two numbers of a version, after the word and the first one.
-fn minor_of(unicode: bool, major: Numeral, rest: &[u8]) -> First
-    requires { Sixteen major }
-    ensures { result ≡ minor_of unicode major rest.now }
+// A number of a version.
+fn decimal(field: &[u8]) -> Option<u16>
+    ensures { result ≡ decimal field.now }
 {
-    let end = fields::find(rest, 0, 9);
-    if rest.len() <= end {
-        return First::Bad;
-    }
-    let start = end + 1;
-    let minor = fields::number_of(&rest[..end], 10, 65535);
-    let update = fields::number_of(&rest[start..], 10, 65535);
-    if unicode {
-        return version_from(major, minor, update);
-    }
-    First::Bad
+    let number = fields::number_of(field, 10, 65535)?;
+    Some(number as u16)
 }
 
-// The three numbers of a version, after the word.
-fn major_of(unicode: bool, more: &[u8]) -> First
-    ensures { result ≡ major_of unicode more.now }
-{
-    let end = fields::find(more, 0, 9);
-    if more.len() <= end {
-        return First::Bad;
-    }
-    let start = end + 1;
-    let major = fields::number_of(&more[..end], 10, 65535);
-    minor_of(unicode, major, &more[start..])
-}
-
-// What the first line says: up to a tab the word `unicode`, and then three numbers.
-pub fn version_of(line: &[u8]) -> First
+// What the first line says: up to a tab the word `unicode`, and then three numbers. None where it is bad.
+pub fn version_of(line: &[u8]) -> Option<Version>
     ensures { result ≡ version_of line.now }
 {
-    let end = fields::find(line, 0, 9);
-    if line.len() <= end {
-        return First::Bad;
+    let (word, numbers) = fields::cut(line, b'\t')?;
+    let (major, others) = fields::cut(numbers, b'\t')?;
+    let (minor, update) = fields::cut(others, b'\t')?;
+    if !fields::is_word(word, b"unicode") {
+        return None;
     }
-    let start = end + 1;
-    let unicode = fields::is_word(&line[..end], b"unicode");
-    major_of(unicode, &line[start..])
+    Some(Version {
+        major: decimal(major)?,
+        minor: decimal(minor)?,
+        update: decimal(update)?,
+    })
 }
