@@ -1,11 +1,9 @@
 // What a quote and the letters r, k, b and c begin, after them, each proved equal to its rule in the book.
 #![tactic(auto)]
 
-ghost use Rattle.std.specs.Prelude.{◌≡◌, []};
+ghost use Rattle.std.specs.Prelude.{◌≡◌};
 ghost use Rattle.basics.specs.Choice.{and};
-ghost use Rattle.ranges.specs.Rules.{Good};
-ghost use Rattle.classes.specs.Identifiers.{id_start};
-ghost use Rattle.token.specs.Lists.{lent};
+ghost use Rattle.token.specs.Lists.{starting};
 ghost use Rattle.token.specs.Names.{is, '#', 'r'};
 ghost use Rattle.token.specs.Words.{ident_or_unknown_prefix};
 ghost use Rattle.token.specs.Lifetimes.{lifetime_or_char};
@@ -15,151 +13,101 @@ ghost use Rattle.cursor.specs.Ran.{Begun};
 ghost use Rattle.literals.specs.Forms.{double_kind, raw_kind};
 
 use cursor::{Cursor, Kinded, Scanned};
+use lists::Lists;
 use literals::Form;
 use text::CodePoint;
 use token::TokenKind;
-use words::Life;
 
 // What a quote begins: a lifetime or a character literal.
-pub fn lifetime_or_char(text: &[u8], from: Cursor, starts: &[u32], continues: &[u32]) -> Scanned
-    requires { Good starts.now × Good continues.now }
-    ensures { Begun (lifetime_or_char (lent starts.now continues.now [])) text.now from result }
+pub fn lifetime_or_char(text: &[u8], from: Cursor, lists: &Lists) -> Scanned
+    ensures { Begun (lifetime_or_char lists.now) text.now from result }
 {
-    match words::lifetime(text, from, starts, continues) {
-        Life::Found(scanned) => scanned,
-        Life::Char => literals::single_literal(text, from, false, starts, continues),
+    match words::lifetime(text, from, lists) {
+        Some(scanned) => scanned,
+        None => literals::single_literal(text, from, false, lists),
     }
-}
-
-// Whether c is a hash or a double quote.
-pub fn is_hash_or_quote(c: CodePoint) -> bool
-    ensures { result ≡ hash_or_quote c }
-{
-    if c == 0x23 {
-        return true;
-    }
-    c == 0x22
 }
 
 // Whether c and d, after an r or a k, are a hash and the start of an identifier.
-fn is_raw_name(c: CodePoint, d: CodePoint, starts: &[u32]) -> bool
-    requires { Good starts.now }
-    ensures { result ≡ and (is '#' c) (id_start starts.now d) }
+fn is_raw_name(c: CodePoint, d: CodePoint, lists: &Lists) -> bool
+    ensures { result ≡ and (is '#' c) (starting lists.now d) }
 {
-    if c == 0x23 {
-        return classes::id_start(d, starts);
-    }
-    false
+    c == 0x23 && lists.is_start(d)
 }
 
 // Whether c and d, after a b or a c, begin a raw string.
 fn is_raw(c: CodePoint, d: CodePoint) -> bool
     ensures { result ≡ and (is 'r' c) (hash_or_quote d) }
 {
-    if c == 0x72 {
-        return is_hash_or_quote(d);
-    }
-    false
+    c == 0x72 && token::is_hash_or_quote(d)
 }
 
 // An identifier or an unknown prefix.
-fn word(text: &[u8], from: Cursor, continues: &[u32], emoji: &[u32]) -> Scanned
-    requires { Good continues.now × Good emoji.now }
-    ensures { Begun (ident_or_unknown_prefix (lent [] continues.now emoji.now)) text.now from result }
+fn word(text: &[u8], from: Cursor, lists: &Lists) -> Scanned
+    ensures { Begun (ident_or_unknown_prefix lists.now) text.now from result }
 {
-    let lexed = words::ident_or_unknown_prefix(text, from, continues, emoji);
-    let kind = lexed.kind;
-    let next = lexed.next;
+    let lexed = words::ident_or_unknown_prefix(text, from, lists);
     Scanned {
-        kind: Kinded::Plain(kind),
-        next,
+        kind: Kinded::Plain(lexed.kind),
+        next: lexed.next,
     }
 }
 
 // What the letter r begins: a raw identifier, a raw string or a word.
-pub fn after_r(
-    text: &[u8],
-    from: Cursor,
-    starts: &[u32],
-    continues: &[u32],
-    emoji: &[u32],
-) -> Scanned
-    requires { Good starts.now × Good continues.now × Good emoji.now }
-    ensures { Begun (after_r (lent starts.now continues.now emoji.now)) text.now from result }
+pub fn after_r(text: &[u8], from: Cursor, lists: &Lists) -> Scanned
+    ensures { Begun (after_r lists.now) text.now from result }
 {
     let c = from.first(text);
     let d = from.second(text);
-    if is_raw_name(c, d, starts) {
+    if is_raw_name(c, d, lists) {
         return Scanned {
             kind: Kinded::Plain(TokenKind::RawIdent),
-            next: words::eat_identifier(text, from.bump(text), starts, continues),
+            next: words::eat_identifier(text, from.bump(text), lists),
         };
     }
-    if is_hash_or_quote(c) {
-        return literals::raw_literal(text, from, Form::Plain, starts, continues);
+    if token::is_hash_or_quote(c) {
+        return literals::raw_literal(text, from, Form::Plain, lists);
     }
-    word(text, from, continues, emoji)
+    word(text, from, lists)
 }
 
 // What the letter k begins: a forced keyword or a word.
-pub fn after_k(
-    text: &[u8],
-    from: Cursor,
-    starts: &[u32],
-    continues: &[u32],
-    emoji: &[u32],
-) -> Scanned
-    requires { Good starts.now × Good continues.now × Good emoji.now }
-    ensures { Begun (after_k (lent starts.now continues.now emoji.now)) text.now from result }
+pub fn after_k(text: &[u8], from: Cursor, lists: &Lists) -> Scanned
+    ensures { Begun (after_k lists.now) text.now from result }
 {
     let c = from.first(text);
     let d = from.second(text);
-    if is_raw_name(c, d, starts) {
+    if is_raw_name(c, d, lists) {
         return Scanned {
             kind: Kinded::Plain(TokenKind::ForcedKeywordIdent),
-            next: words::eat_identifier(text, from.bump(text), starts, continues),
+            next: words::eat_identifier(text, from.bump(text), lists),
         };
     }
-    word(text, from, continues, emoji)
+    word(text, from, lists)
 }
 
 // What the letter c begins, and b but for a byte: a string, a raw string or a word. 000 has c_or_byte_string.
-pub fn after_c(
-    text: &[u8],
-    from: Cursor,
-    form: Form,
-    starts: &[u32],
-    continues: &[u32],
-    emoji: &[u32],
-) -> Scanned
-    requires { Good starts.now × Good continues.now × Good emoji.now }
-    ensures { Begun (after_c (lent starts.now continues.now emoji.now) (double_kind form) (raw_kind form)) text.now from result }
+pub fn after_c(text: &[u8], from: Cursor, form: Form, lists: &Lists) -> Scanned
+    ensures { Begun (after_c lists.now (double_kind form) (raw_kind form)) text.now from result }
 {
     let c = from.first(text);
     if c == 0x22 {
-        return literals::double_literal(text, from.bump(text), form, starts, continues);
+        return literals::double_literal(text, from.bump(text), form, lists);
     }
     let d = from.second(text);
     if is_raw(c, d) {
-        return literals::raw_literal(text, from.bump(text), form, starts, continues);
+        return literals::raw_literal(text, from.bump(text), form, lists);
     }
-    word(text, from, continues, emoji)
+    word(text, from, lists)
 }
 
 // What the letter b begins: a byte, or what c begins, of bytes.
-pub fn after_b(
-    text: &[u8],
-    from: Cursor,
-    starts: &[u32],
-    continues: &[u32],
-    emoji: &[u32],
-) -> Scanned
-    requires { Good starts.now × Good continues.now × Good emoji.now }
-    ensures { Begun (after_b (lent starts.now continues.now emoji.now)) text.now from result }
+pub fn after_b(text: &[u8], from: Cursor, lists: &Lists) -> Scanned
+    ensures { Begun (after_b lists.now) text.now from result }
 {
     let c = from.first(text);
     if c == 0x27 {
-        return literals::single_literal(text, from.bump(text), true, starts, continues);
+        return literals::single_literal(text, from.bump(text), true, lists);
     }
-    after_c(text, from, Form::Byte, starts, continues, emoji)
+    after_c(text, from, Form::Byte, lists)
 }

@@ -2,8 +2,8 @@
 use Rattle.prefixed.proofs.Rules.{life_in, char_in}
 use Rattle.prefixed.proofs.lifetime_or_char.Goals as goal
 
-pub returns-in-Found : goal.returns-in-Found
-returns-in-Found c = search life_in
+pub returns-in-Some : goal.returns-in-Some
+returns-in-Some c = life_in _ c.in-Some.ensures
 
-pub returns-in-Char : goal.returns-in-Char
-returns-in-Char c = search char_in
+pub returns-in-None : goal.returns-in-None
+returns-in-None c = char_in _ c.in-None.ensures c.single_literal.ensures
