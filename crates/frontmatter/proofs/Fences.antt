@@ -15,13 +15,11 @@ use Rattle.token.specs.Names.{is, 'newline', '-'}
 use Rattle.token.specs.Frontmatter.{dashes, first}
 use Rattle.cursor.specs.declared.Cursor.{Cursor}
 use Rattle.cursor.specs.declared.Repeated.{Repeated}
-use Rattle.cursor.specs.declared.Step.{Step}
-use Rattle.cursor.specs.declared.Step.TheVariants.{Got, Over}
+use Rattle.std.specs.Prelude.{Option, None, Some}
 use Rattle.cursor.specs.Cursors.{rest, Seen}
 use Rattle.cursor.specs.Counted.{Counted}
 use Rattle.cursor.specs.Moved.{over, arrive, left_of, no_more}
 use Rattle.cursor.proofs.Moves.{char_at, end_at}
-use Rattle.frontmatter.specs.declared.Sought.TheVariants.{At, Nowhere}
 use Rattle.frontmatter.specs.Searches.{SoughtAt}
 use Rattle.frontmatter.proofs.Seeks.{shift, shift_none, shift_more, shift_further, Seeking, seeking, seek_past, seek_on, seek_at, seek_gone, first_here, first_on, first_none}
 
@@ -85,11 +83,11 @@ pub record Fencing (n : ℕ) (s : List ℕ) (a b : Cursor) : Type 0 where
 pub fencing : (n : ℕ) (s : List ℕ) (a : Cursor) → Fencing n s a a
 fencing n s a = record { seek = seeking s a (further (fence n (rest s a))) }
 
-module _ {n : ℕ} {s : List ℕ} {a b : Cursor} (i : Fencing n s a b) {r : Step} (h : Seen s b r) where
-  pub fencing_over : r ≡ Over → SoughtAt s a (further (fence n (rest s a))) Nowhere
+module _ {n : ℕ} {s : List ℕ} {a b : Cursor} (i : Fencing n s a b) {r : Option (ℕ × Cursor)} (h : Seen s b r) where
+  pub fencing_over : r ≡ None → SoughtAt s a (further (fence n (rest s a))) None
   fencing_over e = seek_gone i.seek (ap further (ap (fence n) (end_at e h) ∙ fence_none n))
 
-  module _ {c : ℕ} {d : Cursor} (e : r ≡ Got c d) where
+  module _ {c : ℕ} {d : Cursor} (e : r ≡ Some (c, d)) where
     -- one character more
     on_by : fence n (c ∷ rest s d) ≡ further (fence n (rest s d)) → Fencing n s a d
     on_by q = record { seek = seek_on i.seek (char_at e h) (ap further (ap (fence n) (char_at e h).chars ∙ q)) }
@@ -98,7 +96,7 @@ module _ {n : ℕ} {s : List ℕ} {a b : Cursor} (i : Fencing n s a b) {r : Step
     fencing_other q = on_by (fence_other n c (rest s d) q)
 
     module _ (q : c ≡ 0x0A) {k : Repeated} (g : Counted '-' s d k) where
-      pub fencing_found : n ≤ k.count → SoughtAt s a (further (fence n (rest s a))) (At d)
+      pub fencing_found : n ≤ k.count → SoughtAt s a (further (fence n (rest s a))) (Some d)
       fencing_found l =
           let z : rest s b ≡ c ∷ rest s d = (char_at e h).chars in
           seek_at i.seek 1 (arrive (over (char_at e h)) (sym (ap (drop 1) z)))

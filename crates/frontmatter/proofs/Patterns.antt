@@ -12,8 +12,7 @@ use borrow.Author.Tests.{ne_eqb, eq-eqb}
 use Rattle.basics.specs.Choice.{and}
 use Rattle.eaters.specs.Look.{begins}
 use Rattle.cursor.specs.declared.Cursor.{Cursor}
-use Rattle.cursor.specs.declared.Step.{Step}
-use Rattle.cursor.specs.declared.Step.TheVariants.{Got, Over}
+use Rattle.std.specs.Prelude.{Option, None, Some}
 use Rattle.cursor.specs.Cursors.{rest, Seen}
 use Rattle.cursor.proofs.Moves.{char_at, end_at}
 
@@ -46,11 +45,11 @@ module _ {l s : List ℕ} {a b : Cursor} {i : ℕ} (m : Matching l s a b i) wher
   pub matched : length l ≤ i → true ≡ begins l (rest s a)
   matched h = sym (begins_all l i (rest s b) h) ∙ m.same
 
-  module _ (o : i < length l) {r : Step} (h : Seen s b r) where
-    pub matching_over : r ≡ Over → false ≡ begins l (rest s a)
+  module _ (o : i < length l) {r : Option (ℕ × Cursor)} (h : Seen s b r) where
+    pub matching_over : r ≡ None → false ≡ begins l (rest s a)
     matching_over e = sym (begins_over l i o) ∙ ap (begins (drop i l)) (sym (end_at e h)) ∙ m.same
 
-    module _ {c w : ℕ} {d : Cursor} (e : r ≡ Got c d) (f : w ≡ get_or l i 0) where
+    module _ {c w : ℕ} {d : Cursor} (e : r ≡ Some (c, d)) (f : w ≡ get_or l i 0) where
       step : begins l (rest s a) ≡ and (eqb c w) (begins (drop (i + 1) l) (rest s d))
       step =
           sym m.same ∙ ap (begins (drop i l)) (char_at e h).chars ∙ begins_step l i c (rest s d) o

@@ -5,36 +5,19 @@ use mathlib.Core.Bool.{Bool, true, false}
 use mathlib.Core.List.{List, [], ◌∷◌}
 use lib.ListN.{length, drop, length-drop}
 use native.Mathlib.Omega.{arith}
-use borrow.Author.Tests.{ne_eqb}
 use Rattle.basics.specs.Choice.{pick}
-use Rattle.classes.specs.Whitespace.{is_horizontal_whitespace}
 use Rattle.eaters.specs.Find.{Place, at, nowhere, further, or_else}
 use Rattle.eaters.specs.Look.{begins}
 use Rattle.eaters.proofs.Fits.{begins_long}
 use Rattle.token.specs.Frontmatter.{dashes, first, still_blank, last_search, recovery, use_line, doc_line, attribute_line}
 use Rattle.cursor.specs.declared.Cursor.{Cursor}
-use Rattle.cursor.specs.declared.Step.{Step}
-use Rattle.cursor.specs.declared.Step.TheVariants.{Got, Over}
+use Rattle.std.specs.Prelude.{Option, None, Some, MatchOption}
 use Rattle.cursor.specs.Cursors.{rest, Seen}
 use Rattle.cursor.specs.Moved.{Moved, left_of}
 use Rattle.cursor.proofs.Moves.{char_at, end_at}
-use Rattle.frontmatter.specs.declared.Sought.{Sought}
-use Rattle.frontmatter.specs.declared.Sought.TheVariants.{At, Nowhere}
 use Rattle.frontmatter.specs.Searches.{SoughtAt, there, gone}
 use Rattle.frontmatter.proofs.Seeks.{shift, shift_none, shift_more, Seeking, seeking, seek_past, seek_on, seek_here, seek_gone}
 use Rattle.frontmatter.proofs.Fences.{fence}
-
--- blanks on a line
-module _ (c : ℕ) (blank : Bool) where
-  pub blank_newline : c ≡ 0x0A → true ≡ still_blank blank c
-  blank_newline e = rw e
-
-  module _ (n : c ≡ 0x0A → ⊥) where
-    pub blank_on : {t : Bool} → blank ≡ true → t ≡ is_horizontal_whitespace c → t ≡ still_blank blank c
-    blank_on h e = e ∙ rw (ne_eqb c 0x0A n, h)
-
-    pub blank_off : blank ≡ false → false ≡ still_blank blank c
-    blank_off h = rw (ne_eqb c 0x0A n, h)
 
 -- THE LAST SEARCH, one step of the definition
 abbrev last : Bool → List ℕ → Place
@@ -75,7 +58,7 @@ lasting s a = record { seek = seeking s a (last_search 0 true (rest s a)) }
 
 module _ {s : List ℕ} {a b : Cursor} {blank : Bool} (i : Lasting s a b blank) {t : Bool} (q : t ≡ begins (dashes 3) (rest s b)) where
   module _ (y : t ≡ true) where
-    pub lasting_found : blank ≡ true → SoughtAt s a (last_search 0 true (rest s a)) (At b)
+    pub lasting_found : blank ≡ true → SoughtAt s a (last_search 0 true (rest s a)) (Some b)
     lasting_found h = seek_here i.seek (ap (λ (z : Bool). last z (rest s b)) h ∙ last_here (rest s b) (sym q ∙ y))
 
     pub lasting_again : {d : Cursor} → blank ≡ false → Moved s b d (drop 3 (rest s b)) → Lasting s a d true
@@ -89,11 +72,11 @@ module _ {s : List ℕ} {a b : Cursor} {blank : Bool} (i : Lasting s a b blank) 
     pub lasting_less : {d : Cursor} → Moved s b d (drop 3 (rest s b)) → length (rest s d) < length (rest s b)
     lasting_less m = omega (arith, begins_long (dashes 3) (rest s b) (sym q ∙ y), ap length (left_of m), length-drop 3 (rest s b))
 
-  module _ (n : t ≡ false) {r : Step} (h : Seen s b r) where
-    pub lasting_over : r ≡ Over → SoughtAt s a (last_search 0 true (rest s a)) Nowhere
+  module _ (n : t ≡ false) {r : Option (ℕ × Cursor)} (h : Seen s b r) where
+    pub lasting_over : r ≡ None → SoughtAt s a (last_search 0 true (rest s a)) None
     lasting_over e = seek_gone i.seek (ap (last blank) (end_at e h) ∙ last_none blank)
 
-    pub lasting_on : {c : ℕ} {d : Cursor} {w : Bool} → r ≡ Got c d → w ≡ still_blank blank c → Lasting s a d w
+    pub lasting_on : {c : ℕ} {d : Cursor} {w : Bool} → r ≡ Some (c, d) → w ≡ still_blank blank c → Lasting s a d w
     lasting_on {c} {d} {w} e f =
         let z : rest s b ≡ c ∷ rest s d = (char_at e h).chars in
         record {
@@ -102,34 +85,27 @@ module _ {s : List ℕ} {a b : Cursor} {blank : Bool} (i : Lasting s a b blank) 
               (ap (last blank) z ∙ last_on blank c (rest s d) (ap (begins (dashes 3)) (sym z) ∙ sym q ∙ n) ∙ ap (λ (v : Bool). further (last v (rest s d))) (sym f));
         }
 
--- THE SEARCHES IN THEIR ORDER
-found : {s : List ℕ} {a c : Cursor} {p : Place} {r : Sought} (q : Place) → SoughtAt s a p r → r ≡ At c → SoughtAt s a (or_else p q) (At c)
-found {s} {a} {c} {p} q k e = go (subst (SoughtAt s a p) e k)
-  where
-    go : {p : Place} → SoughtAt s a p (At c) → SoughtAt s a (or_else p q) (At c)
-    go (there m) = there m
+-- THE SEARCHES IN THEIR ORDER: one, or the next where it finds nothing
+or_next : (p q : Place) {s : List ℕ} {a : Cursor} (r : Option Cursor) {o : Option Cursor} {P : Type 0} → SoughtAt s a p r → MatchOption r P (λ x. o ≡ Some x) → (P → SoughtAt s a q o) → SoughtAt s a (or_else p q) o
+or_next p q None gone k f = f k
+or_next p q {s} {a} (Some x) (there {k} m) e f = subst (SoughtAt s a (or_else (at k) q)) (sym e) (there m)
 
-otherwise : {s : List ℕ} {a : Cursor} {p q : Place} {r o : Sought} → SoughtAt s a p r → r ≡ Nowhere → SoughtAt s a q o → SoughtAt s a (or_else p q) o
-otherwise {s} {a} {p} {q} {r} {o} k e j = go (subst (SoughtAt s a p) e k)
-  where
-    go : {p : Place} → SoughtAt s a p Nowhere → SoughtAt s a (or_else p q) o
-    go gone = j
+joined : (p q o : Place) → or_else (or_else p q) o ≡ or_else p (or_else q o)
+joined (at k) q o = refl
+joined nowhere q o = refl
 
-module _ {s : List ℕ} {a : Cursor} {r : Sought} (k : SoughtAt s a (further (fence 3 (rest s a))) r) where
-  pub by_fence : {c : Cursor} → r ≡ At c → SoughtAt s a (recovery (rest s a)) (At c)
-  by_fence e = found _ k e
-
-  module _ (e : r ≡ Nowhere) {r₁ : Sought} (k₁ : SoughtAt s a (first use_line (rest s a)) r₁) where
-    pub by_use : {c : Cursor} → r₁ ≡ At c → SoughtAt s a (recovery (rest s a)) (At c)
-    by_use e₁ = otherwise k e (found _ k₁ e₁)
-
-    module _ (e₁ : r₁ ≡ Nowhere) {r₂ : Sought} (k₂ : SoughtAt s a (first doc_line (rest s a)) r₂) where
-      pub by_doc : {c : Cursor} → r₂ ≡ At c → SoughtAt s a (recovery (rest s a)) (At c)
-      by_doc e₂ = otherwise k e (otherwise k₁ e₁ (found _ k₂ e₂))
-
-      module _ (e₂ : r₂ ≡ Nowhere) {r₃ : Sought} (k₃ : SoughtAt s a (first attribute_line (rest s a)) r₃) where
-        pub by_attribute : {c : Cursor} → r₃ ≡ At c → SoughtAt s a (recovery (rest s a)) (At c)
-        by_attribute e₃ = otherwise k e (otherwise k₁ e₁ (otherwise k₂ e₂ (found _ k₃ e₃)))
-
-        pub by_last : {o : Sought} → r₃ ≡ Nowhere → SoughtAt s a (last_search 0 true (rest s a)) o → SoughtAt s a (recovery (rest s a)) o
-        by_last e₃ j = otherwise k e (otherwise k₁ e₁ (otherwise k₂ e₂ (otherwise k₃ e₃ j)))
+module _ {s : List ℕ} {a : Cursor} {r : Option Cursor} (k : SoughtAt s a (further (fence 3 (rest s a))) r) (r₁ r₂ r₃ r₄ : Option Cursor) {P₁ P₂ P₃ P₄ : Type 0} where
+  pub recovered : MatchOption r P₁ (λ x. r₁ ≡ Some x) → (P₁ → SoughtAt s a (first use_line (rest s a)) r₁)
+      → MatchOption r₁ P₂ (λ x. r₂ ≡ Some x) → (P₂ → SoughtAt s a (first doc_line (rest s a)) r₂)
+      → MatchOption r₂ P₃ (λ x. r₃ ≡ Some x) → (P₃ → SoughtAt s a (first attribute_line (rest s a)) r₃)
+      → MatchOption r₃ P₄ (λ x. r₄ ≡ Some x) → (P₄ → SoughtAt s a (last_search 0 true (rest s a)) r₄)
+      → SoughtAt s a (recovery (rest s a)) r₄
+  recovered m₁ f₁ m₂ f₂ m₃ f₃ m₄ f₄ =
+      let p = further (fence 3 (rest s a)) in
+      let q = first use_line (rest s a) in
+      let o = first doc_line (rest s a) in
+      let u = first attribute_line (rest s a) in
+      let w = last_search 0 true (rest s a) in
+      let e = joined (or_else (or_else p q) o) u w ∙ joined (or_else p q) o (or_else u w) ∙ joined p q (or_else o (or_else u w)) in
+      subst (λ (z : Place). SoughtAt s a z r₄) e
+      (or_next _ w r₃ (or_next _ u r₂ (or_next _ o r₁ (or_next _ q r k m₁ f₁) m₂ f₂) m₃ f₃) m₄ f₄)

@@ -9,10 +9,9 @@ use lib.Dec.{leb, eqb}
 use lib.ListN.{length, get_or, drop}
 use lib.Seq.{drop-drop}
 use native.Mathlib.Omega.{arith}
-use borrow.Author.Tests.{ne_eqb, eqb-true, leb-true}
+use borrow.Author.Tests.{eqb-true, leb-true}
 use Rattle.basics.proofs.Choices.{and_1, and_2}
 use Rattle.classes.specs.Whitespace.{is_horizontal_whitespace}
-use Rattle.classes.specs.Identifiers.{id_start, id_continue}
 use Rattle.eaters.specs.Eat.{Eater, give, nothing, take_while, while, ◌>>◌}
 use Rattle.eaters.specs.Find.{Place, at, nowhere, further}
 use Rattle.eaters.specs.Look.{begins, if_at}
@@ -21,29 +20,30 @@ use Rattle.eaters.proofs.Firsts.{find_first}
 use Rattle.token.specs.declared.TokenKind.{TokenKind}
 use Rattle.token.specs.declared.TokenKind.TheVariants as kind
 use Rattle.token.specs.Names.{is, 'newline', '-'}
-use Rattle.token.specs.Lists.{Lists, lent, starting}
+use Rattle.token.specs.Lists.{Lists, starting}
 use Rattle.token.specs.Comments.{in_line}
 use Rattle.token.specs.Frontmatter.{dashes, line_rest, recovery, line_at, closed, body, in_infostring, infostring, frontmatter}
 use Rattle.cursor.specs.declared.Cursor.{Cursor}
 use Rattle.cursor.specs.declared.Repeated.{Repeated}
 use Rattle.cursor.specs.Counted.{Counted}
-use Rattle.cursor.specs.declared.Step.{Step}
-use Rattle.cursor.specs.declared.Step.TheVariants.{Over}
-use Rattle.cursor.specs.Cursors.{rest, Seen}
+use Rattle.std.specs.Prelude.{Option, None, Some}
+use Rattle.cursor.specs.Cursors.{rest}
 use Rattle.cursor.specs.Moved.{Moved, arrive, then}
 use Rattle.cursor.specs.Ran.{left, Ran}
-use Rattle.cursor.proofs.Moves.{end_at}
 use Rattle.cursor.proofs.Steps.{rest_short}
 use Rattle.cursor.proofs.Runs.{ran_give, ran_bind, ran_then, ran_yes, ran_no, ran_take}
 use Rattle.cursor.proofs.Loops.{ran_while}
-use Rattle.frontmatter.specs.declared.Sought.{Sought}
-use Rattle.frontmatter.specs.declared.Sought.TheVariants.{At, Nowhere}
 use Rattle.frontmatter.specs.Searches.{SoughtAt, there, gone}
 use Rattle.frontmatter.proofs.Fences.{fence}
 
 -- PAST EVERYTHING
-pub all_over : {s : List ℕ} {a b : Cursor} {r : Step} → Moved s a b (rest s b) → Seen s b r → r ≡ Over → Moved s a b []
-all_over m h e = arrive m (end_at e h)
+all_eaten : (cs : List ℕ) → left (while (λ (c : ℕ). true)) cs ≡ []
+unfolding while
+all_eaten [] = refl
+all_eaten (c ∷ cs) = all_eaten cs
+
+pub all_over : {s : List ℕ} {a b : Cursor} → Moved s a b (left (while (λ (c : ℕ). true)) (rest s a)) → Moved s a b []
+all_over {s} {a} m = arrive m (all_eaten (rest s a))
 
 drop_all : (cs : List ℕ) → [] ≡ drop (length cs) cs
 drop_all [] = refl
@@ -54,17 +54,17 @@ line_past : (k : ℕ) {s : List ℕ} {a c d : Cursor} → Moved s a c (drop k (r
 unfolding while
 line_past k {s} {a} m n = arrive (then (left (while in_line)) m n) (drop-drop (line_rest (drop k (rest s a))) k (rest s a))
 
-module _ {s : List ℕ} {a : Cursor} {p : Place} {r : Sought} (k : SoughtAt s a p r) where
-  pub line_at_lem : {c d : Cursor} → r ≡ At c → Moved s c d (left (while in_line) (rest s c)) → Moved s a d (drop (line_at p (rest s a)) (rest s a))
+module _ {s : List ℕ} {a : Cursor} {p : Place} {r : Option Cursor} (k : SoughtAt s a p r) where
+  pub line_at_lem : {c d : Cursor} → r ≡ Some c → Moved s c d (left (while in_line) (rest s c)) → Moved s a d (drop (line_at p (rest s a)) (rest s a))
   line_at_lem {c} {d} e n = go (subst (SoughtAt s a p) e k)
     where
-      go : {p : Place} → SoughtAt s a p (At c) → Moved s a d (drop (line_at p (rest s a)) (rest s a))
+      go : {p : Place} → SoughtAt s a p (Some c) → Moved s a d (drop (line_at p (rest s a)) (rest s a))
       go (there {k = k} m) = line_past k m n
 
-  pub line_none : {d : Cursor} → r ≡ Nowhere → Moved s a d [] → Moved s a d (drop (line_at p (rest s a)) (rest s a))
+  pub line_none : {d : Cursor} → r ≡ None → Moved s a d [] → Moved s a d (drop (line_at p (rest s a)) (rest s a))
   line_none {d} e n = go (subst (SoughtAt s a p) e k)
     where
-      go : {p : Place} → SoughtAt s a p Nowhere → Moved s a d (drop (line_at p (rest s a)) (rest s a))
+      go : {p : Place} → SoughtAt s a p None → Moved s a d (drop (line_at p (rest s a)) (rest s a))
       go gone = arrive n (drop_all (rest s a))
 
 -- THE BODY: dashes at the front belong to their line
@@ -91,48 +91,37 @@ same_line n k cs e =
     let z : drop n (drop (suc k) cs) ≡ drop (k + suc n) cs = drop-drop n (suc k) cs ∙ ap (λ (j : ℕ). drop j cs) v in
     omega (arith, dashes_line n (drop (suc k) cs) (ap (begins (dashes n)) (sym y) ∙ b), ap line_rest z)
 
-never_at : {s : List ℕ} {a c : Cursor} {p : Place} → SoughtAt s a p (At c) → p ≡ nowhere → ⊥
+never_at : {s : List ℕ} {a c : Cursor} {p : Place} → SoughtAt s a p (Some c) → p ≡ nowhere → ⊥
 never_at (there m) e = let z : ◌≡◌ {A = ℕ} 0 1 = cc in omega arith
 
-never_gone : {s : List ℕ} {a : Cursor} {p : Place} {k : ℕ} → SoughtAt s a p Nowhere → p ≡ at k → ⊥
+never_gone : {s : List ℕ} {a : Cursor} {p : Place} {k : ℕ} → SoughtAt s a p None → p ≡ at k → ⊥
 never_gone gone e = let z : ◌≡◌ {A = ℕ} 0 1 = cc in omega arith
 
-module _ (n : ℕ) {s : List ℕ} {a d : Cursor} {r : Sought} (k : SoughtAt s a (further (fence n (rest s a))) r) where
-  pub body_closed : {c : Cursor} → r ≡ At c → Moved s c d (left (while in_line) (rest s c)) → Ran (body n) s a d tt
+module _ (n : ℕ) {s : List ℕ} {a d : Cursor} {r : Option Cursor} (k : SoughtAt s a (further (fence n (rest s a))) r) where
+  pub body_closed : {c : Cursor} → r ≡ Some c → Moved s c d (left (while in_line) (rest s c)) → Ran (body n) s a d tt
   unfolding body
   body_closed {c} e m = record { moved = arrive (line_at_lem k e m) (ap (λ (j : ℕ). drop j (rest s a)) (go (fence n (rest s a)) refl (subst (SoughtAt s a _) e k))); said = refl }
     where
-      go : (p : Place) → fence n (rest s a) ≡ p → SoughtAt s a (further p) (At c) → line_at (further p) (rest s a) ≡ closed n p (rest s a)
+      go : (p : Place) → fence n (rest s a) ≡ p → SoughtAt s a (further p) (Some c) → line_at (further p) (rest s a) ≡ closed n p (rest s a)
       go (at j) f h = same_line n j (rest s a) f
       go nowhere f h = absurd (never_at h refl)
 
-  pub body_open : r ≡ Nowhere → Moved s a d (drop (line_at (recovery (rest s a)) (rest s a)) (rest s a)) → Ran (body n) s a d tt
+  pub body_open : r ≡ None → Moved s a d (drop (line_at (recovery (rest s a)) (rest s a)) (rest s a)) → Ran (body n) s a d tt
   unfolding body
   body_open e m = record { moved = arrive m (ap (λ (j : ℕ). drop j (rest s a)) (go (fence n (rest s a)) (subst (SoughtAt s a _) e k))); said = refl }
     where
-      go : (p : Place) → SoughtAt s a (further p) Nowhere → line_at (recovery (rest s a)) (rest s a) ≡ closed n p (rest s a)
+      go : (p : Place) → SoughtAt s a (further p) None → line_at (recovery (rest s a)) (rest s a) ≡ closed n p (rest s a)
       go (at j) h = absurd (never_gone h refl)
       go nowhere h = refl
 
 -- THE INFOSTRING
-module _ (l : List ℕ) (c : ℕ) {t : Bool} (e : t ≡ id_continue l c) where
-  pub string_going : t ≡ true → true ≡ in_infostring (lent [] l []) c
-  string_going h = rw (← e, h)
-
-  module _ (n : t ≡ false) where
-    pub string_dash : c ≡ 0x2D → true ≡ in_infostring (lent [] l []) c
-    string_dash h = rw (← e, n, h)
-
-    pub string_dot : (c ≡ 0x2D → ⊥) → eqb c 0x2E ≡ in_infostring (lent [] l []) c
-    string_dot h = rw (← e, n, ne_eqb c 0x2D h)
-
-module _ (i l : List ℕ) {s : List ℕ} {a : Cursor} {c : ℕ} {t : Bool} (e : c ≡ get_or (rest s a) 0 0) (f : t ≡ id_start i c) where
-  pub string_in : {b d : Cursor} → t ≡ true → Moved s a b (drop 1 (rest s a)) → Moved s b d (left (while (in_infostring (lent [] l []))) (rest s b)) → Ran (infostring (lent i l [])) s a d tt
+module _ (L : Lists) {s : List ℕ} {a : Cursor} {c : ℕ} {t : Bool} (e : c ≡ get_or (rest s a) 0 0) (f : t ≡ starting L c) where
+  pub string_in : {b d : Cursor} → t ≡ true → Moved s a b (drop 1 (rest s a)) → Moved s b d (left (while (in_infostring L)) (rest s b)) → Ran (infostring L) s a d tt
   string_in {b} {d} h m k =
-      ran_take (while (in_infostring (lent i l [])) >> nothing) nothing (starting (lent i l [])) e (sym f ∙ h) m (ran_then (ran_while (in_infostring (lent i l [])) k) (ran_give tt s d))
+      ran_take (while (in_infostring L) >> nothing) nothing (starting L) e (sym f ∙ h) m (ran_then (ran_while (in_infostring L) k) (ran_give tt s d))
 
-  pub string_none : t ≡ false → Ran (infostring (lent i l [])) s a a tt
-  string_none h = ran_no _ nothing (starting (lent i l [])) e (sym f ∙ h) (ran_give tt s a)
+  pub string_none : t ≡ false → Ran (infostring L) s a a tt
+  string_none h = ran_no _ nothing (starting L) e (sym f ∙ h) (ran_give tt s a)
 
 -- THE RULE
 abbrev told : Bool → ℕ → Bool → Eater TokenKind
@@ -150,19 +139,19 @@ module _ {s : List ℕ} {a : Cursor} {h : Repeated} (g : Counted '-' s a h) wher
   unfolding while
   more_fits j z e = record { fits = omega (arith, g.count, leb-true j 1 e, (fits_while (is '-')).fits (rest s a) (omega arith), rest_short s a) }
 
-  module _ (i l : List ℕ) (v : Bool) {b c d e : Cursor} {x : ℕ} (m : Moved s h.next b (left (while is_horizontal_whitespace) (rest s h.next))) (r : Ran (infostring (lent i l [])) s b c tt)
+  module _ (L : Lists) (v : Bool) {b c d e : Cursor} {x : ℕ} (m : Moved s h.next b (left (while is_horizontal_whitespace) (rest s h.next))) (r : Ran (infostring L) s b c tt)
       (k : Moved s c d (left (while is_horizontal_whitespace) (rest s c))) (f : x ≡ get_or (rest s d) 0 0) (q : Ran (body (h.count + 1)) s d e tt) where
     closing : (w : Bool) → Ran (told v (suc (length (take_while (is '-') (rest s a)))) w) s d e (kind.Frontmatter v w)
     closing w =
         let z : h.count + 1 ≡ suc (length (take_while (is '-') (rest s a))) = omega (arith, g.count) in
         ran_then (subst (λ (j : ℕ). Ran (body j) s d e tt) z q) (ran_give (kind.Frontmatter v w) s e)
 
-    whole : {y : TokenKind} → Ran (ended v (suc (length (take_while (is '-') (rest s a))))) s d e y → Ran (frontmatter (lent i l []) v) s a e y
+    whole : {y : TokenKind} → Ran (ended v (suc (length (take_while (is '-') (rest s a))))) s d e y → Ran (frontmatter L v) s a e y
     whole u =
-        ran_bind (opened (lent i l []) v) (ran_while (is '-') g.moved)
+        ran_bind (opened L v) (ran_while (is '-') g.moved)
         (ran_then (ran_while is_horizontal_whitespace m) (ran_then r (ran_then (ran_while is_horizontal_whitespace k) u)))
 
-    pub frontmatter_in : Ran (frontmatter (lent i l []) v) s a e (kind.Frontmatter v (not (eqb x 0x0A)))
+    pub frontmatter_in : Ran (frontmatter L v) s a e (kind.Frontmatter v (not (eqb x 0x0A)))
     frontmatter_in = whole (go (eqb x 0x0A) refl)
       where
         go : (t : Bool) → eqb x 0x0A ≡ t → Ran (ended v (suc (length (take_while (is '-') (rest s a))))) s d e (kind.Frontmatter v (not t))

@@ -11,13 +11,10 @@ use Rattle.eaters.specs.Find.{Place, at, nowhere, further, find}
 use Rattle.eaters.specs.Look.{begins}
 use Rattle.token.specs.Frontmatter.{first}
 use Rattle.cursor.specs.declared.Cursor.{Cursor}
-use Rattle.cursor.specs.declared.Step.{Step}
-use Rattle.cursor.specs.declared.Step.TheVariants.{Got, Over}
+use Rattle.std.specs.Prelude.{Option, None, Some}
 use Rattle.cursor.specs.Cursors.{rest, Here, Seen}
 use Rattle.cursor.specs.Moved.{Moved, start, over, arrive, then}
 use Rattle.cursor.proofs.Moves.{char_at, end_at}
-use Rattle.frontmatter.specs.declared.Sought.{Sought}
-use Rattle.frontmatter.specs.declared.Sought.TheVariants.{At, Nowhere}
 use Rattle.frontmatter.specs.Searches.{SoughtAt, there, gone}
 
 -- j places further
@@ -43,12 +40,12 @@ shift_further j nowhere = refl
 
 -- THE SEARCH IS AT b: whatever answers for the place q from b on answers for the place p from a on
 pub record Seeking (s : List ℕ) (a b : Cursor) (p q : Place) : Type 0 where
-  pub back : {r : Sought} → SoughtAt s b q r → SoughtAt s a p r
+  pub back : {r : Option Cursor} → SoughtAt s b q r → SoughtAt s a p r
 
 pub seeking : (s : List ℕ) (a : Cursor) (p : Place) → Seeking s a a p p
 seeking s a p = record { back = λ k. k }
 
-shifted : (j : ℕ) {s : List ℕ} {b d : Cursor} {q : Place} {r : Sought} → Moved s b d (drop j (rest s b)) → SoughtAt s d q r → SoughtAt s b (shift j q) r
+shifted : (j : ℕ) {s : List ℕ} {b d : Cursor} {q : Place} {r : Option Cursor} → Moved s b d (drop j (rest s b)) → SoughtAt s d q r → SoughtAt s b (shift j q) r
 shifted j {s} {b} m (there {k = k} n) = there (arrive (then (drop k) m n) (drop-drop k j (rest s b)))
 shifted j m gone = gone
 
@@ -61,14 +58,14 @@ module _ {s : List ℕ} {a b : Cursor} {p q : Place} (i : Seeking s a b p q) whe
   pub seek_on : {c : ℕ} {d : Cursor} {o : Place} → Here s b c d → q ≡ further o → Seeking s a d p o
   seek_on {o = o} h e = seek_past 1 (arrive (over h) (sym (ap (drop 1) h.chars))) (e ∙ shift_one o)
 
-  pub seek_at : (k : ℕ) {d : Cursor} → Moved s b d (drop k (rest s b)) → q ≡ at k → SoughtAt s a p (At d)
-  seek_at k {d} m e = i.back (subst (λ (z : Place). SoughtAt s b z (At d)) (sym e) (there m))
+  pub seek_at : (k : ℕ) {d : Cursor} → Moved s b d (drop k (rest s b)) → q ≡ at k → SoughtAt s a p (Some d)
+  seek_at k {d} m e = i.back (subst (λ (z : Place). SoughtAt s b z (Some d)) (sym e) (there m))
 
-  pub seek_here : q ≡ at 0 → SoughtAt s a p (At b)
+  pub seek_here : q ≡ at 0 → SoughtAt s a p (Some b)
   seek_here e = seek_at 0 (start s b) e
 
-  pub seek_gone : q ≡ nowhere → SoughtAt s a p Nowhere
-  seek_gone e = i.back (subst (λ (z : Place). SoughtAt s b z Nowhere) (sym e) gone)
+  pub seek_gone : q ≡ nowhere → SoughtAt s a p None
+  seek_gone e = i.back (subst (λ (z : Place). SoughtAt s b z None) (sym e) gone)
 
 -- THE SEARCH FOR CHARACTERS, one step of the definition
 pub first_here : (l cs : List ℕ) → begins l cs ≡ true → first l cs ≡ at 0
@@ -91,16 +88,16 @@ pub finding : (l s : List ℕ) (a : Cursor) → Finding l s a a
 finding l s a = record { seek = seeking s a (first l (rest s a)) }
 
 module _ {l s : List ℕ} {a b : Cursor} (i : Finding l s a b) {t : Bool} (q : t ≡ begins l (rest s b)) where
-  pub found : t ≡ true → SoughtAt s a (first l (rest s a)) (At b)
+  pub found : t ≡ true → SoughtAt s a (first l (rest s a)) (Some b)
   found y = seek_here i.seek (first_here l (rest s b) (sym q ∙ y))
 
-  module _ (n : t ≡ false) {r : Step} (h : Seen s b r) where
-    pub finding_over : r ≡ Over → SoughtAt s a (first l (rest s a)) Nowhere
+  module _ (n : t ≡ false) {r : Option (ℕ × Cursor)} (h : Seen s b r) where
+    pub finding_over : r ≡ None → SoughtAt s a (first l (rest s a)) None
     finding_over e =
         let z : rest s b ≡ [] = end_at e h in
         seek_gone i.seek (ap (first l) z ∙ first_none l (ap (begins l) (sym z) ∙ sym q ∙ n))
 
-    pub finding_on : {c : ℕ} {d : Cursor} → r ≡ Got c d → Finding l s a d
+    pub finding_on : {c : ℕ} {d : Cursor} → r ≡ Some (c, d) → Finding l s a d
     finding_on {c} {d} e =
         let z : rest s b ≡ c ∷ rest s d = (char_at e h).chars in
         record { seek = seek_on i.seek (char_at e h) (ap (first l) z ∙ first_on l c (rest s d) (ap (begins l) (sym z) ∙ sym q ∙ n)) }

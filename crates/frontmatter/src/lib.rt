@@ -1,16 +1,14 @@
 // Frontmatter, in linear time, proved equal to its rule in the book. Names are 000's.
 //
-// A function that uses a lent list asks for one that was checked. Every search goes over the text once.
+// Every search goes over the text once.
 #![tactic(auto)]
 
 ghost use Rattle.std.specs.Prelude.{◌≡◌, [], ◌∷◌, true, drop};
-ghost use Rattle.ranges.specs.Rules.{Good};
 ghost use Rattle.classes.specs.Whitespace.{is_horizontal_whitespace};
 ghost use Rattle.eaters.specs.Eat.{while};
 ghost use Rattle.eaters.specs.Look.{begins};
 ghost use Rattle.eaters.specs.Find.{further};
 ghost use Rattle.token.specs.Names.{'newline'};
-ghost use Rattle.token.specs.Lists.{lent};
 ghost use Rattle.token.specs.Frontmatter;
 ghost use Rattle.token.specs.Frontmatter.{dashes, first, still_blank, line_at, in_infostring, infostring};
 ghost use Rattle.cursor.specs.Cursors.{rest};
@@ -18,7 +16,8 @@ ghost use Rattle.cursor.specs.Moved.{Moved};
 ghost use Rattle.cursor.specs.Ran.{left, Ran};
 ghost use Rattle.frontmatter.specs.Searches.{SoughtAt};
 
-use cursor::{Cursor, Lexed, Step};
+use cursor::{Cursor, Lexed};
+use lists::Lists;
 use text::CodePoint;
 use token::TokenKind;
 
@@ -27,57 +26,43 @@ fn starts_with(text: &[u8], from: Cursor, pattern: &[u8]) -> bool
     ensures { result ≡ begins pattern.now (rest text.now from) }
 {
     let mut cur = from;
-    let mut i: usize = 0;
-    while i < pattern.len() {
-        let Step::Got(c, next) = cur.peek(text) else {
+    for b in pattern {
+        let Some((c, next)) = cur.peek(text) else {
             return false;
         };
-        let wanted = text::wide(pattern[i]);
-        if c != wanted {
+        if c != u32::from(*b) {
             return false;
         }
         cur = next;
-        i += 1;
     }
     true
 }
 
-// What a search gives: the cursor at the place that was sought, if there is one.
-#[derive(Clone, Copy)]
-enum Sought {
-    At(Cursor),
-    Nowhere,
-}
-
 // Where these characters, all of ASCII, are first found.
-fn find(text: &[u8], from: Cursor, pattern: &[u8]) -> Sought
+fn find(text: &[u8], from: Cursor, pattern: &[u8]) -> Option<Cursor>
     ensures { SoughtAt text.now from (first pattern.now (rest text.now from)) result }
 {
     let mut cur = from;
     loop {
         if starts_with(text, cur, pattern) {
-            return Sought::At(cur);
+            return Some(cur);
         }
-        let Step::Got(_, next) = cur.peek(text) else {
-            return Sought::Nowhere;
-        };
+        let (_, next) = cur.peek(text)?;
         cur = next;
     }
 }
 
 // Past the first newline with `count` dashes after it. Dashes that were counted are not read again: no newline is among them.
-fn find_fence(text: &[u8], from: Cursor, count: usize) -> Sought
+fn find_fence(text: &[u8], from: Cursor, count: usize) -> Option<Cursor>
     ensures { SoughtAt text.now from (further (first ('newline' ∷ dashes count) (rest text.now from))) result }
 {
     let mut cur = from;
     loop {
-        let Step::Got(c, next) = cur.peek(text) else {
-            return Sought::Nowhere;
-        };
+        let (c, next) = cur.peek(text)?;
         if c == 0x0A {
             let fence = next.eat_repeated(text, 0x2D);
             if count <= fence.count {
-                return Sought::At(next);
+                return Some(next);
             }
             cur = fence.next;
         } else {
@@ -97,18 +82,12 @@ pub fn at_dashes(text: &[u8], from: Cursor) -> bool
 fn still_blank(c: CodePoint, blank: bool) -> bool
     ensures { result ≡ still_blank blank c }
 {
-    if c == 0x0A {
-        return true;
-    }
-    if blank {
-        return classes::is_horizontal_whitespace(c);
-    }
-    false
+    c == 0x0A || (blank && classes::is_horizontal_whitespace(c))
 }
 
 // The last search: the first three dashes before which there are only blanks, counted from their line's start, from where the search began, or
 // from the three dashes passed before them. It goes on after the dashes that it passes, and looks at most three characters ahead.
-fn last_search(text: &[u8], from: Cursor) -> Sought
+fn last_search(text: &[u8], from: Cursor) -> Option<Cursor>
     ensures { SoughtAt text.now from (Frontmatter.last_search 0 true (rest text.now from)) result }
 {
     let mut cur = from;
@@ -116,14 +95,12 @@ fn last_search(text: &[u8], from: Cursor) -> Sought
     loop {
         if at_dashes(text, cur) {
             if blank {
-                return Sought::At(cur);
+                return Some(cur);
             }
             cur = cur.eat(text, 3);
             blank = true;
         } else {
-            let Step::Got(c, next) = cur.peek(text) else {
-                return Sought::Nowhere;
-            };
+            let (c, next) = cur.peek(text)?;
             blank = still_blank(c, blank);
             cur = next;
         }
@@ -132,35 +109,21 @@ fn last_search(text: &[u8], from: Cursor) -> Sought
 
 // Where a frontmatter without a closing fence may end: past the first newline with three dashes after it; else at the first newline that Rust
 // may begin after; else what the last search finds. Each search goes through the whole rest before the next one begins.
-fn recovery(text: &[u8], from: Cursor) -> Sought
+fn recovery(text: &[u8], from: Cursor) -> Option<Cursor>
     ensures { SoughtAt text.now from (Frontmatter.recovery (rest text.now from)) result }
 {
-    if let Sought::At(line) = find_fence(text, from, 3) {
-        return Sought::At(line);
-    }
-    if let Sought::At(line) = find(text, from, b"\nuse ") {
-        return Sought::At(line);
-    }
-    if let Sought::At(line) = find(text, from, b"\n//!") {
-        return Sought::At(line);
-    }
-    if let Sought::At(line) = find(text, from, b"\n#![") {
-        return Sought::At(line);
-    }
-    last_search(text, from)
+    find_fence(text, from, 3)
+        .or_else(|| find(text, from, b"\nuse "))
+        .or_else(|| find(text, from, b"\n//!"))
+        .or_else(|| find(text, from, b"\n#!["))
+        .or_else(|| last_search(text, from))
 }
 
 // Past everything.
 fn eat_all(text: &[u8], from: Cursor) -> Cursor
     ensures { Moved text.now from result [] }
 {
-    let mut cur = from;
-    loop {
-        let Step::Got(_, next) = cur.peek(text) else {
-            return cur;
-        };
-        cur = next;
-    }
+    from.eat_while(text, |_| true)
 }
 
 // To where a frontmatter without a closing fence ends, and past the rest of that line; past everything, if it ends nowhere.
@@ -168,8 +131,8 @@ fn recover(text: &[u8], from: Cursor) -> Cursor
     ensures { Moved text.now from result (drop (line_at (Frontmatter.recovery (rest text.now from)) (rest text.now from)) (rest text.now from)) }
 {
     match recovery(text, from) {
-        Sought::At(line) => comment::eat_line(text, line),
-        Sought::Nowhere => eat_all(text, from),
+        Some(line) => comment::eat_line(text, line),
+        None => eat_all(text, from),
     }
 }
 
@@ -178,8 +141,8 @@ fn body(text: &[u8], from: Cursor, count: usize) -> Cursor
     ensures { Ran (Frontmatter.body count) text.now from result tt }
 {
     match find_fence(text, from, count) {
-        Sought::At(line) => comment::eat_line(text, line),
-        Sought::Nowhere => recover(text, from),
+        Some(line) => comment::eat_line(text, line),
+        None => recover(text, from),
     }
 }
 
@@ -187,83 +150,42 @@ fn body(text: &[u8], from: Cursor, count: usize) -> Cursor
 fn eat_blanks(text: &[u8], from: Cursor) -> Cursor
     ensures { Moved text.now from result (left (while is_horizontal_whitespace) (rest text.now from)) }
 {
-    let mut cur = from;
-    loop {
-        match cur.peek(text) {
-            Step::Got(c, next) => {
-                if classes::is_horizontal_whitespace(c) {
-                    cur = next;
-                } else {
-                    return cur;
-                }
-            }
-            Step::Over => return cur,
-        }
-    }
+    from.eat_while(text, classes::is_horizontal_whitespace)
 }
 
 // Whether c goes on in an infostring.
-fn in_infostring(c: CodePoint, continues: &[u32]) -> bool
-    requires { Good continues.now }
-    ensures { result ≡ in_infostring (lent [] continues.now []) c }
+fn in_infostring(c: CodePoint, lists: &Lists) -> bool
+    ensures { result ≡ in_infostring lists.now c }
 {
-    if classes::id_continue(c, continues) {
-        return true;
-    }
-    if c == 0x2D {
-        return true;
-    }
-    c == 0x2E
+    lists.is_continue(c) || matches!(c, 0x2D | 0x2E)
 }
 
 // Past what goes on in an infostring.
-fn infostring_rest(text: &[u8], from: Cursor, continues: &[u32]) -> Cursor
-    requires { Good continues.now }
-    ensures { Moved text.now from result (left (while (in_infostring (lent [] continues.now []))) (rest text.now from)) }
+fn infostring_rest(text: &[u8], from: Cursor, lists: &Lists) -> Cursor
+    ensures { Moved text.now from result (left (while (in_infostring lists.now)) (rest text.now from)) }
 {
-    let mut cur = from;
-    loop {
-        match cur.peek(text) {
-            Step::Got(c, next) => {
-                if in_infostring(c, continues) {
-                    cur = next;
-                } else {
-                    return cur;
-                }
-            }
-            Step::Over => return cur,
-        }
-    }
+    from.eat_while(text, |c| in_infostring(c, lists))
 }
 
 // The infostring, if there is one.
-fn eat_infostring(text: &[u8], from: Cursor, starts: &[u32], continues: &[u32]) -> Cursor
-    requires { Good starts.now × Good continues.now }
-    ensures { Ran (infostring (lent starts.now continues.now [])) text.now from result tt }
+fn eat_infostring(text: &[u8], from: Cursor, lists: &Lists) -> Cursor
+    ensures { Ran (infostring lists.now) text.now from result tt }
 {
-    let c = from.first(text);
-    if classes::id_start(c, starts) {
-        return infostring_rest(text, from.bump(text), continues);
+    if lists.is_start(from.first(text)) {
+        return infostring_rest(text, from.bump(text), lists);
     }
     from
 }
 
 // Frontmatter, after its first dash.
-pub fn frontmatter(
-    text: &[u8],
-    from: Cursor,
-    invalid_before: bool,
-    starts: &[u32],
-    continues: &[u32],
-) -> Lexed
-    requires { Good starts.now × Good continues.now }
-    ensures { Ran (Frontmatter.frontmatter (lent starts.now continues.now []) invalid_before) text.now from result.next result.kind }
+pub fn frontmatter(text: &[u8], from: Cursor, invalid_before: bool, lists: &Lists) -> Lexed
+    ensures { Ran (Frontmatter.frontmatter lists.now invalid_before) text.now from result.next result.kind }
 {
     let fence = from.eat_repeated(text, 0x2D);
     let more = fence.count;
     let open = fence.next;
     let name = eat_blanks(text, open);
-    let blanks = eat_infostring(text, name, starts, continues);
+    let blanks = eat_infostring(text, name, lists);
     let line = eat_blanks(text, blanks);
     let invalid_infostring = line.first(text) != 0x0A;
     let next = body(text, line, more + 1);

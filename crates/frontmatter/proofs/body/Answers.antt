@@ -2,8 +2,8 @@
 use Rattle.frontmatter.proofs.Rules.{body_closed, body_open}
 use Rattle.frontmatter.proofs.body.Goals as goal
 
-pub returns-in-At : goal.returns-in-At
-returns-in-At c = search body_closed
+pub returns-in-Some : goal.returns-in-Some
+returns-in-Some c = search body_closed
 
-pub returns-in-Nowhere : goal.returns-in-Nowhere
-returns-in-Nowhere c = search body_open
+pub returns-in-None : goal.returns-in-None
+returns-in-None c = search body_open

@@ -8,11 +8,11 @@ loop-cur-init c = finding _ _ _
 pub returns-then-starts_with : goal.returns-then-starts_with
 returns-then-starts_with c = search found
 
-pub returns-in_default : goal.returns-in_default
-returns-in_default c = search finding_over
+pub returns-in_err-next : goal.returns-in_err-next
+returns-in_err-next c = rw c.from_residual.ensures (search (finding_over, c.in_err-next.was))
 
 pub loop-cur-smaller : goal.loop-cur-smaller
-loop-cur-smaller c = search fewer_1
+loop-cur-smaller c = search (fewer_1, c.in_ok-next.was)
 
 pub loop-cur-preserved : goal.loop-cur-preserved
-loop-cur-preserved c = search finding_on
+loop-cur-preserved c = search (finding_on, c.in_ok-next.was)

@@ -5,20 +5,20 @@ use Rattle.frontmatter.proofs.find_fence.Goals as goal
 pub loop-c-init : goal.loop-c-init
 loop-c-init c = fencing _ _ _
 
-pub returns-in_default : goal.returns-in_default
-returns-in_default c = search fencing_over
+pub returns-in_err-c : goal.returns-in_err-c
+returns-in_err-c c = rw c.from_residual.ensures (search (fencing_over, c.in_err-c.was))
 
 pub returns-then-count-fence : goal.returns-then-count-fence
-returns-then-count-fence c = search fencing_found
+returns-then-count-fence c = search (fencing_found, c.in_ok-c.was)
 
 pub loop-c-smaller-then-c-eq10 : goal.loop-c-smaller-then-c-eq10
-loop-c-smaller-then-c-eq10 c = search fencing_less
+loop-c-smaller-then-c-eq10 c = search (fencing_less, c.in_ok-c.was)
 
 pub loop-c-preserved-then-c-eq10 : goal.loop-c-preserved-then-c-eq10
-loop-c-preserved-then-c-eq10 c = search fencing_few
+loop-c-preserved-then-c-eq10 c = search (fencing_few, c.in_ok-c.was)
 
 pub loop-c-smaller : goal.loop-c-smaller
-loop-c-smaller c = search fewer_1
+loop-c-smaller c = search (fewer_1, c.in_ok-c.was)
 
 pub loop-c-preserved : goal.loop-c-preserved
-loop-c-preserved c = search fencing_other
+loop-c-preserved c = search (fencing_other, c.in_ok-c.was)

@@ -1,18 +1,6 @@
-use Rattle.cursor.proofs.Moves.{fewer_1}
-use Rattle.cursor.proofs.Loops.{eaten_none, eaten_on, eaten_off, eaten_over}
+-- `frontmatter::infostring_rest` meets its contract. The closure says what the predicate says.
+use Rattle.std.proofs.Common.{rules}
 use Rattle.frontmatter.proofs.infostring_rest.Goals as goal
 
-pub loop-c-init : goal.loop-c-init
-loop-c-init c = eaten_none _ _ _
-
-pub loop-c-smaller : goal.loop-c-smaller
-loop-c-smaller c = search fewer_1
-
-pub loop-c-preserved : goal.loop-c-preserved
-loop-c-preserved c = search eaten_on
-
-pub returns-else-in_infostring : goal.returns-else-in_infostring
-returns-else-in_infostring c = search eaten_off
-
-pub returns-in-Over : goal.returns-in-Over
-returns-in-Over c = search eaten_over
+pub returns : goal.returns
+returns c = c.eat_while.ensures _ (λ x b h k. search rules)

@@ -14,11 +14,11 @@ loop-cur-smaller-then-at_dashes c = search lasting_less
 pub loop-cur-preserved-then-at_dashes : goal.loop-cur-preserved-then-at_dashes
 loop-cur-preserved-then-at_dashes c = search lasting_again
 
-pub returns-in_default : goal.returns-in_default
-returns-in_default c = search lasting_over
+pub returns-in_err-c : goal.returns-in_err-c
+returns-in_err-c c = rw c.from_residual.ensures (search (lasting_over, c.in_err-c.was))
 
 pub loop-cur-smaller : goal.loop-cur-smaller
-loop-cur-smaller c = search fewer_1
+loop-cur-smaller c = search (fewer_1, c.in_ok-c.was)
 
 pub loop-cur-preserved : goal.loop-cur-preserved
-loop-cur-preserved c = search lasting_on
+loop-cur-preserved c = search (lasting_on, c.in_ok-c.was)

@@ -2,8 +2,8 @@
 use Rattle.frontmatter.proofs.Rules.{line_at_lem, line_none}
 use Rattle.frontmatter.proofs.recover.Goals as goal
 
-pub returns-in-At : goal.returns-in-At
-returns-in-At c = search line_at_lem
+pub returns-in-Some : goal.returns-in-Some
+returns-in-Some c = search line_at_lem
 
-pub returns-in-Nowhere : goal.returns-in-Nowhere
-returns-in-Nowhere c = search line_none
+pub returns-in-None : goal.returns-in-None
+returns-in-None c = search line_none
