@@ -1,4 +1,4 @@
-// Bytes that a reader gives, in a lent buffer.
+// Bytes that a reader gives, in a lent buffer; and arrays of one value, which are such buffers.
 #![tactic(auto)]
 
 ghost use Rattle.std.specs.Prelude.{◌≡◌, ◌<◌, length, take, IfOk};

@@ -4,32 +4,68 @@
 
 ghost use Rattle.std.specs.Prelude.{◌+◌, ◌≤◌, length};
 ghost use Rattle.token.specs.Kinds.{kind_name};
-ghost use Rattle.token_line.specs.Line.{front, line, lined_line};
+ghost use Rattle.token_line.specs.Line.{front, line, lined_line, Named};
 ghost use Rattle.puts.specs.Put.{PutFew};
 
 use token::TokenKind;
 
-// The names of the kinds, one after the other in the order of 000, and where each starts; the last number is the end.
-const NAMES: [u8; 322] =
-    *b"LineCommentBlockCommentWhitespaceFrontmatterIdentInvalidIdentRawIdentForcedKeywordIdentUnknownPrefixUnknownPrefixLifetimeRawLifetimeGuardedStrPrefixLiteralLifetimeSemiCommaDotOpenParenCloseParenOpenBraceCloseBraceOpenBracketCloseBracketAtPoundTildeQuestionColonDollarEqBangLtGtMinusAndOrPlusStarSlashCaretPercentUnknownEof";
-
-const STARTS: [usize; 44] = [
-    0, 11, 23, 33, 44, 49, 61, 69, 87, 100, 121, 132, 148, 155, 163, 167, 172, 175, 184, 194, 203,
-    213, 224, 236, 238, 243, 248, 256, 261, 267, 269, 273, 275, 277, 282, 285, 287, 291, 295, 300,
-    305, 312, 319, 322,
-];
+// The name of a kind: one arm a kind, in the order of 000.
+fn name(kind: TokenKind) -> &'static [u8]
+    ensures { Named kind result.now }
+{
+    match kind {
+        TokenKind::LineComment { .. } => b"LineComment",
+        TokenKind::BlockComment { .. } => b"BlockComment",
+        TokenKind::Whitespace => b"Whitespace",
+        TokenKind::Frontmatter { .. } => b"Frontmatter",
+        TokenKind::Ident => b"Ident",
+        TokenKind::InvalidIdent => b"InvalidIdent",
+        TokenKind::RawIdent => b"RawIdent",
+        TokenKind::ForcedKeywordIdent => b"ForcedKeywordIdent",
+        TokenKind::UnknownPrefix => b"UnknownPrefix",
+        TokenKind::UnknownPrefixLifetime => b"UnknownPrefixLifetime",
+        TokenKind::RawLifetime => b"RawLifetime",
+        TokenKind::GuardedStrPrefix => b"GuardedStrPrefix",
+        TokenKind::Literal { .. } => b"Literal",
+        TokenKind::Lifetime { .. } => b"Lifetime",
+        TokenKind::Semi => b"Semi",
+        TokenKind::Comma => b"Comma",
+        TokenKind::Dot => b"Dot",
+        TokenKind::OpenParen => b"OpenParen",
+        TokenKind::CloseParen => b"CloseParen",
+        TokenKind::OpenBrace => b"OpenBrace",
+        TokenKind::CloseBrace => b"CloseBrace",
+        TokenKind::OpenBracket => b"OpenBracket",
+        TokenKind::CloseBracket => b"CloseBracket",
+        TokenKind::At => b"At",
+        TokenKind::Pound => b"Pound",
+        TokenKind::Tilde => b"Tilde",
+        TokenKind::Question => b"Question",
+        TokenKind::Colon => b"Colon",
+        TokenKind::Dollar => b"Dollar",
+        TokenKind::Eq => b"Eq",
+        TokenKind::Bang => b"Bang",
+        TokenKind::Lt => b"Lt",
+        TokenKind::Gt => b"Gt",
+        TokenKind::Minus => b"Minus",
+        TokenKind::And => b"And",
+        TokenKind::Or => b"Or",
+        TokenKind::Plus => b"Plus",
+        TokenKind::Star => b"Star",
+        TokenKind::Slash => b"Slash",
+        TokenKind::Caret => b"Caret",
+        TokenKind::Percent => b"Percent",
+        TokenKind::Unknown => b"Unknown",
+        TokenKind::Eof => b"Eof",
+    }
+}
 
 // The name of a kind. The longest has 21 bytes.
 fn put_name(out: &mut [u8], at: usize, kind: TokenKind) -> usize
     requires { at + 21 ≤ length out.old }
     ensures { PutFew 21 (kind_name kind) out.old at out.new result }
 {
-    let n = kinds::kind_number(kind) as usize;
-    let names = NAMES;
-    let starts = STARTS;
-    let from = starts[n];
-    let to = starts[n + 1];
-    puts::put_bytes(out, at, &names[from..to])
+    puts::put_bytes(out, at, name(kind))
 }
 
 // How the line of a token begins: the name of its kind, a tab, its length in decimal. At most 32 bytes.

@@ -5,19 +5,19 @@
 // judged by the stored answers themselves.
 #![tactic(auto)]
 
-ghost use Rattle.std.specs.Prelude.{◌+◌, ◌<◌, ◌≤◌, length};
+ghost use Rattle.std.specs.Prelude.{◌≡◌, ◌+◌, ◌*◌, ◌≤◌, length, IfSome};
 ghost use Rattle.vectors.specs.Placed.{Placed, VectorPlaced};
 
 use refusal::Numbers;
 
-// A part of a file, from its first place to the place past it. One that is not there is empty and stands where it was looked for.
+// A part of a file, from its first place to the place past it.
 #[derive(Clone, Copy)]
 pub struct Part {
     pub from: usize,
     pub to: usize,
 }
 
-// A vector: the operation, what is handed in and the answer. One that is not there ends where it was looked for.
+// A vector: the operation, what is handed in and the answer.
 #[derive(Clone, Copy)]
 pub struct Vector {
     pub operation: u32,
@@ -25,151 +25,96 @@ pub struct Vector {
     pub answer: Part,
 }
 
-// The number in the four bytes at a place, lowest first; 0 where they are not there.
-pub fn number(s: &[u8], at: usize) -> u32 {
-    if s.len() < 4 {
-        return 0;
-    }
-    if s.len() - 4 < at {
-        return 0;
-    }
-    let a = text::wide(s[at]);
-    let b = text::wide(s[at + 1]);
-    let c = text::wide(s[at + 2]);
-    let d = text::wide(s[at + 3]);
-    a + 0x100 * b + 0x10000 * c + 0x1000000 * d
+// The number in the first four bytes, lowest first, and the bytes after it.
+pub fn split_number(s: &[u8]) -> Option<(u32, &[u8])>
+    ensures { IfSome result (λ r. length r.1.now + 4 ≡ length s.now) }
+{
+    let (four, rest) = s.split_first_chunk::<4>()?;
+    Some((u32::from_le_bytes(*four), rest))
+}
+
+// The number in the four bytes at a place.
+pub fn number(s: &[u8], at: usize) -> Option<u32>
+    ensures { IfSome result (λ n. at + 4 ≤ length s.now) }
+{
+    let (n, _) = split_number(s.get(at..)?)?;
+    Some(n)
 }
 
 // n bytes, after the four bytes at a place.
-fn after_number(s: &[u8], at: usize, n: usize) -> Part
-    requires { at ≤ length s.now }
-    ensures { Placed (length s.now) at result }
+fn after_number(s: &[u8], at: usize, n: usize) -> Option<Part>
+    requires { at + 4 ≤ length s.now }
+    ensures { IfSome result (Placed (length s.now) at) }
 {
-    if s.len() - at < 4 {
-        return Part { from: at, to: at };
-    }
     let from = at + 4;
     if s.len() - from < n {
-        return Part { from: at, to: at };
+        return None;
     }
-    Part { from, to: from + n }
+    Some(Part { from, to: from + n })
 }
 
 // A number at a place, and as many bytes after it as it says.
-fn bytes_at(s: &[u8], at: usize) -> Part
-    requires { at ≤ length s.now }
-    ensures { Placed (length s.now) at result }
+fn bytes_at(s: &[u8], at: usize) -> Option<Part>
+    ensures { IfSome result (Placed (length s.now) at) }
 {
-    let n = number(s, at) as usize;
-    after_number(s, at, n)
+    let n = number(s, at)?;
+    after_number(s, at, n as usize)
 }
 
 // A number at a place, and as many numbers after it as it says.
-pub fn numbers_at(s: &[u8], at: usize) -> Part
-    requires { at ≤ length s.now }
-    ensures { Placed (length s.now) at result }
+pub fn numbers_at(s: &[u8], at: usize) -> Option<Part>
+    ensures { IfSome result (Placed (length s.now) at) }
 {
-    let n = number(s, at) as usize;
-    after_number(s, at, n * 4)
-}
-
-// No vector at a place.
-fn no_vector(at: usize) -> Vector
-    ensures { VectorPlaced at at result }
-{
-    let input = Part { from: at, to: at };
-    let answer = Part { from: at, to: at };
-    Vector {
-        operation: 0,
-        input,
-        answer,
-    }
+    let n = number(s, at)?;
+    after_number(s, at, n as usize * 4)
 }
 
 // The vector at a place.
-pub fn vector_at(s: &[u8], at: usize) -> Vector
-    requires { at ≤ length s.now }
-    ensures { VectorPlaced (length s.now) at result }
+pub fn vector_at(s: &[u8], at: usize) -> Option<Vector>
+    ensures { IfSome result (VectorPlaced (length s.now) at) }
 {
-    if s.len() - at < 4 {
-        return no_vector(at);
-    }
-    let input = bytes_at(s, at + 4);
-    let end = input.to;
-    if end <= at + 4 {
-        return no_vector(at);
-    }
-    let answer = bytes_at(s, end);
-    if answer.to <= end {
-        return no_vector(at);
-    }
-    Vector {
-        operation: number(s, at),
+    let operation = number(s, at)?;
+    let input = bytes_at(s, at + 4)?;
+    let answer = bytes_at(s, input.to)?;
+    Some(Vector {
+        operation,
         input,
         answer,
-    }
+    })
 }
 
 // Copies the numbers of a part into out, as many as both have, and answers how many.
 pub fn load(s: &[u8], part: Part, out: &mut [u32]) -> usize
     ensures { result ≤ length out.new }
 {
-    let to = part.to;
-    let mut k = 0;
-    let mut at = part.from;
-    while k < out.len() {
-        if to < 4 {
-            return k;
-        }
-        if to - 4 < at {
-            return k;
-        }
-        out[k] = number(s, at);
-        k += 1;
-        at += 4;
+    let bytes = s.get(part.from..part.to).unwrap_or(&[]);
+    let (numbers, _) = bytes.as_chunks::<4>();
+    for (place, four) in out.iter_mut().zip(numbers) {
+        *place = u32::from_le_bytes(*four);
     }
-    k
+    numbers.len().min(out.len())
 }
 
-// Puts the low byte of a number at a place.
-fn put_low(out: &mut [u8], at: usize, n: usize)
-    requires { at < length out.old }
-{
-    out[at] = (n % 0x100) as u8;
-}
-
-// Puts the low four bytes of a number at a place, lowest first.
-fn put_four(out: &mut [u8], at: usize, n: usize)
-    requires { at + 4 ≤ length out.old }
-{
-    put_low(out, at, n);
-    put_low(out, at + 1, n / 0x100);
-    put_low(out, at + 2, n / 0x10000);
-    put_low(out, at + 3, n / 0x1000000);
-}
-
-// Puts numbers at a place and answers the place past them; where there is no room for all of them it puts nothing and answers the place.
-pub fn put(out: &mut [u8], at: usize, ns: &[usize]) -> usize
+// Puts the low four bytes of numbers at a place, lowest first, and answers the place past them; where there is no room for all of them it puts nothing.
+pub fn put(out: &mut [u8], at: usize, ns: &[usize]) -> Option<usize>
     requires { at ≤ length out.old }
-    ensures { result ≤ length out.new }
+    ensures place { IfSome result (λ next. next ≡ at + length ns.now * 4) }
+    ensures room { IfSome result (λ next. next ≤ length out.new) }
 {
     if (out.len() - at) / 4 < ns.len() {
-        return at;
+        return None;
     }
-    let mut i = 0;
     let mut next = at;
-    while i < ns.len() {
-        put_four(out, next, ns[i]);
+    for n in ns {
+        out[next..next + 4].copy_from_slice(&n.to_le_bytes()[..4]);
         next += 4;
-        i += 1;
     }
-    next
+    Some(next)
 }
 
 // Puts the three numbers of an answer into out and answers how many bytes that took.
-pub fn put_numbers(out: &mut [u8], n: Numbers) -> usize
-    ensures { result ≤ length out.new }
+pub fn put_numbers(out: &mut [u8], n: Numbers) -> Option<usize>
+    ensures { IfSome result (λ next. next ≤ length out.new) }
 {
-    let ns = [n.number as usize, n.beside, n.second];
-    put(out, 0, &ns)
+    put(out, 0, &[n.number as usize, n.beside, n.second])
 }

@@ -1,11 +1,6 @@
--- `vectors::put` meets its contract. There is room for the numbers that are left.
-use Prim.Native.Nat.{◌+◌, ◌-◌, ◌*◌, ◌≤◌}
-use mathlib.Core.Path.{◌≡◌}
-use lib.ListN.{length}
+-- `vectors::put` meets its contract. Each number has taken four bytes, and there is room for those that are left.
+use Rattle.std.proofs.Common.{◌≡◌, ◌+◌, ◌*◌, ◌≤◌, length}
 use Rattle.vectors.proofs.put.Given as goal
 
-abbrev pub invariant-loop-i : goal.invariant-loop-i
-invariant-loop-i l = (l.i ≤ length l.ns) × (l.next + (length l.ns - l.i) * 4 ≤ length l.out) × (length l.out ≡ length l.initial.out)
-
-abbrev pub decreases-loop-i : goal.decreases-loop-i
-decreases-loop-i l = length l.ns - l.i
+abbrev pub invariant-loop-n : goal.invariant-loop-n
+invariant-loop-n l = (l.next ≡ l.at + l.n-index * 4) × (l.at + length l.ns * 4 ≤ length l.out) × (length l.out ≡ length l.initial.out)
