@@ -1,3 +1,2 @@
 mod Arms
 mod Fronts
-mod Stays

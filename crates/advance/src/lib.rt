@@ -2,10 +2,8 @@
 // The end of the text is answered before, where tokens are made: here a first character c was read, and `from` is past it.
 #![tactic(auto)]
 
-ghost use Rattle.std.specs.Prelude.{◌≡◌, []};
+ghost use Rattle.std.specs.Prelude.{◌≡◌};
 ghost use Rattle.basics.specs.Choice.{and};
-ghost use Rattle.ranges.specs.Rules.{Good};
-ghost use Rattle.token.specs.Lists.{lent};
 ghost use Rattle.token.specs.Punctuation.{pound};
 ghost use Rattle.token.specs.Advance;
 ghost use Rattle.token.specs.Advance.{decided, stays};
@@ -14,7 +12,8 @@ ghost use Rattle.cursor.specs.Cursors.{rest};
 ghost use Rattle.cursor.specs.Ran.{Ran, Begun};
 ghost use Rattle.advance.specs.Arms.{guards, Led, fence};
 
-use cursor::{Cursor, Kinded, Lexed, Scanned, Step};
+use cursor::{Cursor, Kinded, Lexed, Scanned};
+use lists::Lists;
 use literals::Form;
 use text::CodePoint;
 use token::TokenKind;
@@ -23,11 +22,9 @@ use token::TokenKind;
 fn whole(lexed: Lexed) -> Scanned
     ensures { result ≡ record { kind = kinded.Plain lexed.kind; next = lexed.next } }
 {
-    let kind = lexed.kind;
-    let next = lexed.next;
     Scanned {
-        kind: Kinded::Plain(kind),
-        next,
+        kind: Kinded::Plain(lexed.kind),
+        next: lexed.next,
     }
 }
 
@@ -46,7 +43,7 @@ fn after_hash(text: &[u8], from: Cursor) -> Scanned
     ensures { Begun pound text.now from result }
 {
     let c = from.first(text);
-    if prefixed::is_hash_or_quote(c) {
+    if token::is_hash_or_quote(c) {
         return Scanned {
             kind: Kinded::Plain(TokenKind::GuardedStrPrefix),
             next: from.bump(text),
@@ -56,48 +53,32 @@ fn after_hash(text: &[u8], from: Cursor) -> Scanned
 }
 
 // What any other character begins: whitespace, an identifier, an invalid one, or an unknown token.
-fn other(
-    text: &[u8],
-    c: CodePoint,
-    from: Cursor,
-    starts: &[u32],
-    continues: &[u32],
-    emoji: &[u32],
-) -> Scanned
-    requires { Good starts.now × Good continues.now × Good emoji.now }
-    ensures { Begun (guards (lent starts.now continues.now emoji.now) c) text.now from result }
+fn other(text: &[u8], c: CodePoint, from: Cursor, lists: &Lists) -> Scanned
+    ensures { Begun (guards lists.now c) text.now from result }
 {
     if classes::is_whitespace(c) {
         return whole(comment::whitespace(text, from));
     }
-    if classes::id_start(c, starts) {
-        return whole(words::ident_or_unknown_prefix(text, from, continues, emoji));
+    if lists.is_start(c) {
+        return whole(words::ident_or_unknown_prefix(text, from, lists));
     }
-    if classes::emoji_char(c, emoji) {
-        return whole(words::invalid_ident(text, from, continues, emoji));
+    if lists.is_emoji(c) {
+        return whole(words::invalid_ident(text, from, lists));
     }
     only(TokenKind::Unknown, from)
 }
 
 // The decision over the first character c of a token, frontmatter off, in 000's order of arms; its guards come last.
-fn plain(
-    text: &[u8],
-    c: CodePoint,
-    from: Cursor,
-    starts: &[u32],
-    continues: &[u32],
-    emoji: &[u32],
-) -> Scanned
-    requires { Good starts.now × Good continues.now × Good emoji.now }
-    ensures { Begun (Advance.plain (lent starts.now continues.now emoji.now) c) text.now from result }
+fn plain(text: &[u8], c: CodePoint, from: Cursor, lists: &Lists) -> Scanned
+    ensures { Begun (Advance.plain lists.now c) text.now from result }
 {
     match c {
         0x2F => whole(comment::slash(text, from)),
-        0x72 => prefixed::after_r(text, from, starts, continues, emoji),
-        0x6B => prefixed::after_k(text, from, starts, continues, emoji),
-        0x62 => prefixed::after_b(text, from, starts, continues, emoji),
-        0x63 => prefixed::after_c(text, from, Form::C, starts, continues, emoji),
-        0x30..=0x39 => literals::number_literal(text, from, c, starts, continues),
+        0x72 => prefixed::after_r(text, from, lists),
+        0x6B => prefixed::after_k(text, from, lists),
+        0x62 => prefixed::after_b(text, from, lists),
+        0x63 => prefixed::after_c(text, from, Form::C, lists),
+        0x30..=0x39 => literals::number_literal(text, from, c, lists),
         0x23 => after_hash(text, from),
         0x3B => only(TokenKind::Semi, from),
         0x2C => only(TokenKind::Comma, from),
@@ -124,9 +105,9 @@ fn plain(
         0x2A => only(TokenKind::Star, from),
         0x5E => only(TokenKind::Caret, from),
         0x25 => only(TokenKind::Percent, from),
-        0x27 => prefixed::lifetime_or_char(text, from, starts, continues),
-        0x22 => literals::double_literal(text, from, Form::Plain, starts, continues),
-        _ => other(text, c, from, starts, continues, emoji),
+        0x27 => prefixed::lifetime_or_char(text, from, lists),
+        0x22 => literals::double_literal(text, from, Form::Plain, lists),
+        _ => other(text, c, from, lists),
     }
 }
 
@@ -142,37 +123,24 @@ fn eat_leading(text: &[u8], c: CodePoint, from: Cursor) -> Blanks
 {
     let mut cur = from;
     let mut last = c;
-    loop {
-        match cur.peek(text) {
-            Step::Got(d, next) => {
-                if classes::is_whitespace(d) {
-                    cur = next;
-                    last = d;
-                } else {
-                    return Blanks { next: cur, last };
-                }
-            }
-            Step::Over => return Blanks { next: cur, last },
+    while let Some((d, next)) = cur.peek(text) {
+        if !classes::is_whitespace(d) {
+            break;
         }
+        cur = next;
+        last = d;
     }
+    Blanks { next: cur, last }
 }
 
 // Whitespace that may stand before a frontmatter: a fence right after it belongs to it, unless a newline ends it.
-fn leading(text: &[u8], c: CodePoint, from: Cursor, starts: &[u32], continues: &[u32]) -> Lexed
-    requires { Good starts.now × Good continues.now }
-    ensures { Ran (Advance.leading (lent starts.now continues.now []) c) text.now from result.next result.kind }
+fn leading(text: &[u8], c: CodePoint, from: Cursor, lists: &Lists) -> Lexed
+    ensures { Ran (Advance.leading lists.now c) text.now from result.next result.kind }
 {
     let blanks = eat_leading(text, c, from);
     let next = blanks.next;
-    let last = blanks.last;
-    if last == 0x0A {
-        return Lexed {
-            kind: TokenKind::Whitespace,
-            next,
-        };
-    }
-    if frontmatter::at_dashes(text, next) {
-        return frontmatter::frontmatter(text, next.bump(text), true, starts, continues);
+    if blanks.last != 0x0A && frontmatter::at_dashes(text, next) {
+        return frontmatter::frontmatter(text, next.bump(text), true, lists);
     }
     Lexed {
         kind: TokenKind::Whitespace,
@@ -184,61 +152,35 @@ fn leading(text: &[u8], c: CodePoint, from: Cursor, starts: &[u32], continues: &
 fn opens(text: &[u8], c: CodePoint, from: Cursor) -> bool
     ensures { result ≡ fence c (rest text.now from) }
 {
-    if c != 0x2D {
-        return false;
-    }
-    if from.first(text) != 0x2D {
-        return false;
-    }
-    from.second(text) == 0x2D
+    c == 0x2D && from.first(text) == 0x2D && from.second(text) == 0x2D
 }
 
 // The decision over the first character c of a token, frontmatter on.
-fn fronted(
-    text: &[u8],
-    c: CodePoint,
-    from: Cursor,
-    starts: &[u32],
-    continues: &[u32],
-    emoji: &[u32],
-) -> Scanned
-    requires { Good starts.now × Good continues.now × Good emoji.now }
-    ensures { Begun (Advance.fronted (lent starts.now continues.now emoji.now) c) text.now from result }
+fn fronted(text: &[u8], c: CodePoint, from: Cursor, lists: &Lists) -> Scanned
+    ensures { Begun (Advance.fronted lists.now c) text.now from result }
 {
     if classes::is_whitespace(c) {
-        return whole(leading(text, c, from, starts, continues));
+        return whole(leading(text, c, from, lists));
     }
     if opens(text, c, from) {
-        return whole(frontmatter::frontmatter(text, from, false, starts, continues));
+        return whole(frontmatter::frontmatter(text, from, false, lists));
     }
-    plain(text, c, from, starts, continues, emoji)
+    plain(text, c, from, lists)
 }
 
 // The decision over the first character c of a token, frontmatter on or off.
-pub fn advance_token(
-    text: &[u8],
-    c: CodePoint,
-    from: Cursor,
-    on: bool,
-    starts: &[u32],
-    continues: &[u32],
-    emoji: &[u32],
-) -> Scanned
-    requires { Good starts.now × Good continues.now × Good emoji.now }
-    ensures { Begun (decided (lent starts.now continues.now emoji.now) on c) text.now from result }
+pub fn advance_token(text: &[u8], c: CodePoint, from: Cursor, on: bool, lists: &Lists) -> Scanned
+    ensures { Begun (decided lists.now on c) text.now from result }
 {
     if on {
-        return fronted(text, c, from, starts, continues, emoji);
+        return fronted(text, c, from, lists);
     }
-    plain(text, c, from, starts, continues, emoji)
+    plain(text, c, from, lists)
 }
 
 // Whether frontmatter is on after a token: on stays on through whitespace only.
 pub fn stays_on(on: bool, kind: TokenKind) -> bool
     ensures { result ≡ and on (stays kind) }
 {
-    match kind {
-        TokenKind::Whitespace => on,
-        _ => false,
-    }
+    on && matches!(kind, TokenKind::Whitespace)
 }

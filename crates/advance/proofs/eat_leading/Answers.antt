@@ -11,8 +11,8 @@ loop-d-smaller c = search fewer_1
 pub loop-d-preserved : goal.loop-d-preserved
 loop-d-preserved c = search leading_on
 
-pub returns-else-is_whitespace : goal.returns-else-is_whitespace
-returns-else-is_whitespace c = search led_off
+pub returns-then-not-is_whitespace : goal.returns-then-not-is_whitespace
+returns-then-not-is_whitespace c = search led_off
 
-pub returns-in-Over : goal.returns-in-Over
-returns-in-Over c = search led_over
+pub returns-in_default : goal.returns-in_default
+returns-in_default c = search led_over

@@ -137,7 +137,7 @@ pub returns-in-34 : goal.returns-in-34
 returns-in-34 c = search string_in
 
 pub returns-in-48-to-57 : goal.returns-in-48-to-57
-returns-in-48-to-57 c = digit_in _ _ _ (search rules) (omega arith) (omega arith) c.number_literal.ensures
+returns-in-48-to-57 c = digit_in _ (search rules) (omega arith) (omega arith) c.number_literal.ensures
 
 pub returns-in_default : goal.returns-in_default
-returns-in_default c = other_in _ _ _ (search rules) (elim c.in_default.branch [ in_default-via-then-c-lt33 w ↦ inl (omega arith) | in_default-via-else-c-lt33+else-c-lt58 w ↦ inr (omega arith) ]) c.other.ensures
+returns-in_default c = other_in _ (search rules) (elim c.in_default.branch [ in_default-via-then-c-lt33 w ↦ inl (omega arith) | in_default-via-else-c-lt33+else-c-lt58 w ↦ inr (omega arith) ]) c.other.ensures
