@@ -3,33 +3,27 @@
 // More than 262,144 bytes are refused as too long: `refused`, a tab, 1, a tab, 0.
 #![tactic(auto)]
 
-ghost use Rattle.std.specs.Prelude.{◌≡◌, length, OnOk};
+ghost use Rattle.std.specs.Prelude.{OnOk};
 ghost use Rattle.std.specs.Io.KnownBytes.{Appends};
 ghost use Rattle.well_formed.specs.Said.{said};
 
-use refusal::{Bad, Verdict};
+use refusal::Bad;
 use std::io;
 use std::io::Write;
 
-// Zeros for the input and one byte more, which shows that input is longer. Only the length is promised, so that no proof unfolds the zeros.
-fn room() -> [u8; 262145]
-    ensures { 262145 ≡ length result }
-{
-    [0; 262145]
-}
-
 // Writes what was found of a text of so many bytes.
-fn say<W: Write>(to: &mut W, verdict: Verdict, bytes: usize) -> io::Result<()>
+fn say<W: Write>(to: &mut W, verdict: Result<(), Bad>, bytes: usize) -> io::Result<()>
     ensures { OnOk result (Appends (W.contents to.old) (W.contents to.new) (said verdict bytes)) }
 {
     match verdict {
-        Verdict::Refused(bad) => reports::say_why(to, bad),
-        Verdict::Fine => writeln!(to, "well-formed\t{bytes}"),
+        Err(bad) => reports::say_why(to, bad),
+        Ok(()) => writeln!(to, "well-formed\t{bytes}"),
     }
 }
 
 fn main(rt: HostRuntime) -> io::Result<()> {
-    let mut buf = room();
+    // a byte more than is read shows that input is longer
+    let mut buf: [u8; 262145] = input::filled(0);
     let n = input::read_full(&mut rt.stdin(), &mut buf)?;
     let mut to = rt.stdout();
     if 262144 < n {
