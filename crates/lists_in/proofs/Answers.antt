@@ -4,8 +4,7 @@ use mathlib.Core.Path.{◌≡◌, sym, ap, ◌∙◌}
 use mathlib.Core.List.{List}
 use Rattle.refusal.specs.declared.Numbers.{Numbers}
 use Rattle.lists_file.specs.Load.{load}
-use Rattle.lists_in.specs.declared.ReadAnswer.{ReadAnswer}
-use Rattle.lists_in.specs.Answers.{run_after, lists_in, Reading}
+use Rattle.lists_in.specs.Answers.{ReadAnswer, run_after, lists_in, Reading}
 use Rattle.lists_in.proofs.read_numbers.Reads as numbers
 
 module _ {limit : ℕ} {file a b c starts continues emoji s t u : List ℕ} {r q : ReadAnswer}

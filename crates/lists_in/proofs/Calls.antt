@@ -11,9 +11,8 @@ use native.Mathlib.Omega.{arith}
 use Rattle.basics.specs.Choice.{pick}
 use Rattle.fields.specs.Pieces.{piece}
 use Rattle.fields.proofs.Cuts.{Front, front}
-use Rattle.refusal.specs.declared.Bad.{Bad}
-use Rattle.refusal.specs.declared.Verdict.{Verdict}
-use Rattle.refusal.specs.declared.Verdict.TheVariants as verdict
+use Rattle.std.specs.Prelude.{Result, Ok, Err}
+use Rattle.refusal.specs.Verdict.{Verdict, fine}
 use Rattle.refusal.specs.Order.{refused_or}
 use Rattle.ranges.specs.Rules.{flaw, list_verdict}
 use Rattle.token.specs.Lists.{Lists}
@@ -23,20 +22,18 @@ use Rattle.lists_file.specs.Load.{Read, loaded, bad_line, load}
 use Rattle.lists_file.specs.Verdicts.{lists_verdict}
 use Rattle.lists_file.proofs.Texts.{first_unmarked}
 use Rattle.lists_file.proofs.RoundTrip.{Holds, holds}
-use Rattle.lists_in.specs.declared.Counts.{Counts}
+use Rattle.lists_in.specs.declared.Each.{Each}
 use Rattle.lists_in.specs.declared.Found.{Found}
 use Rattle.lists_in.specs.declared.Held.{Held}
-use Rattle.lists_in.specs.declared.Survey.{Survey}
-use Rattle.lists_in.specs.declared.Survey.TheVariants as survey
-use Rattle.lists_in.specs.declared.ReadAnswer.{ReadAnswer}
-use Rattle.lists_in.specs.declared.ReadAnswer.TheVariants.{Loaded, Line, Room, Refused}
+use Rattle.lists_in.specs.declared.ReadRefusal.{ReadRefusal}
+use Rattle.lists_in.specs.declared.ReadRefusal.TheVariants.{Line, Room}
 use Rattle.lists_in.specs.Tallies.{tallies_of}
 use Rattle.lists_in.specs.Surveys.{found, surveyed}
 use Rattle.lists_in.specs.Fills.{FillRoom, Put, Filled}
-use Rattle.lists_in.specs.Answers.{counts, counts_of, held_of, roomed_for, read_of, run_after, lists_in, Reading, judged_of}
+use Rattle.lists_in.specs.Answers.{ReadAnswer, shared, counts, counts_of, held_of, roomed_for, read_of, run_after, lists_in, Reading, judged_of}
 
 -- the verdicts on what is kept of the lists are those on the lists
-same_judgement : (limit : ℕ) (v : Version) (from : ℕ) (L : Lists) (rooms : Counts) → judged_of limit (found v from (tallies_of L)) rooms ≡ refused_or Refused (lists_verdict limit L) (roomed_for v (counts_of L) rooms)
+same_judgement : (limit : ℕ) (v : Version) (from : ℕ) (L : Lists) (rooms : Each ℕ) → judged_of limit (found v from (tallies_of L)) rooms ≡ refused_or shared (lists_verdict limit L) (roomed_for v (counts_of L) rooms)
 unfolding list_verdict flaw
 same_judgement limit v from L rooms = refl
 
@@ -60,29 +57,29 @@ pub record Loads (s : List ℕ) (from : ℕ) (f : Found) : Type 0 where
   pub loads : load s ≡ loaded version lists
   pub finds : f ≡ found version from (tallies_of lists)
 
-bad_by : (from : ℕ) (q : Read) {index : ℕ} → surveyed from q ≡ survey.Line index → q ≡ bad_line index
-bad_by from (loaded v L) e = let z : ◌≡◌ {A = ℕ} 0 1 = cc in absurd (omega arith)
+bad_by : (from : ℕ) (q : Read) {index : ℕ} → surveyed from q ≡ Err index → q ≡ bad_line index
+bad_by from (loaded v L) e = absurd (cc)
 bad_by from (bad_line k) e = cc
 
-good_by : (s : List ℕ) (from : ℕ) (q : Read) → load s ≡ q → {f : Found} → surveyed from q ≡ survey.Good f → Loads s from f
+good_by : (s : List ℕ) (from : ℕ) (q : Read) → load s ≡ q → {f : Found} → surveyed from q ≡ Ok f → Loads s from f
 good_by s from (loaded v L) l e = record { version = v; lists = L; loads = l; finds = cc }
-good_by s from (bad_line k) l e = let z : ◌≡◌ {A = ℕ} 0 1 = cc in absurd (omega arith)
+good_by s from (bad_line k) l e = absurd (cc)
 
 -- there is room for each list
-record Roomed (v : Version) (n rooms : Counts) (h : Held) : Type 0 where
+record Roomed (v : Version) (n rooms : Each ℕ) (h : Held) : Type 0 where
   starts : n.starts ≤ rooms.starts
   continues : n.continues ≤ rooms.continues
   emoji : n.emoji ≤ rooms.emoji
   held : h ≡ held_of v n
 
-room_told : (v : Version) (n rooms : Counts) {h : Held} → roomed_for v n rooms ≡ Loaded h → Roomed v n rooms h
+room_told : (v : Version) (n rooms : Each ℕ) {h : Held} → roomed_for v n rooms ≡ Ok h → Roomed v n rooms h
 room_told v n rooms {h} e = by_tests (ltb rooms.starts n.starts) refl (ltb rooms.continues n.continues) refl (ltb rooms.emoji n.emoji) refl e
   where
     by_tests : (t : Bool) → ltb rooms.starts n.starts ≡ t → (u : Bool) → ltb rooms.continues n.continues ≡ u → (w : Bool) → ltb rooms.emoji n.emoji ≡ w
-        → pick t (Room 0 n.starts) (pick u (Room 1 n.continues) (pick w (Room 2 n.emoji) (Loaded (held_of v n)))) ≡ Loaded h → Roomed v n rooms h
-    by_tests true p u q w r k = let z : ◌≡◌ {A = ℕ} 0 1 = cc in absurd (omega arith)
-    by_tests false p true q w r k = let z : ◌≡◌ {A = ℕ} 0 1 = cc in absurd (omega arith)
-    by_tests false p false q true r k = let z : ◌≡◌ {A = ℕ} 0 1 = cc in absurd (omega arith)
+        → pick t (Err (Room 0 n.starts)) (pick u (Err (Room 1 n.continues)) (pick w (Err (Room 2 n.emoji)) (Ok (held_of v n)))) ≡ Ok h → Roomed v n rooms h
+    by_tests true p u q w r k = absurd (cc)
+    by_tests false p true q w r k = absurd (cc)
+    by_tests false p false q true r k = absurd (cc)
     by_tests false p false q false r k = record { starts = ltb-false _ _ p; continues = ltb-false _ _ q; emoji = ltb-false _ _ r; held = cc }
 
 -- the records of a file stand past its first line
@@ -105,15 +102,19 @@ laid s {v} {L} h =
       lines = ap (drop (length (piece 10 s) + 1)) h.same ∙ drop_at (line (first_text v)) (body L) (length (piece 10 s) + 1) (sym n);
     }
 
-module _ (s : List ℕ) (from : ℕ) {x : Survey} (p : x ≡ surveyed from (load s)) where
+module _ (s : List ℕ) (from : ℕ) {x : Result Found ℕ} (p : x ≡ surveyed from (load s)) where
   -- WHERE A LINE IS BAD
-  pub read_bad_line : (limit : ℕ) (a b c : List ℕ) {index : ℕ} → x ≡ survey.Line index → Reading limit s a b c a b c (Line index)
-  read_bad_line limit a b c {index} e =
-      let l : load s ≡ bad_line index = bad_by from (load s) (sym p ∙ e) in
-      record { answer = sym (ap (read_of limit (counts (length a) (length b) (length c))) l); starts_hold = refl; continues_hold = refl; emoji_hold = refl }
+  pub read_bad_line : (limit : ℕ) (a b c : List ℕ) {r : ReadAnswer} → ((index : ℕ) → x ≡ Err index → r ≡ Err (Line index)) → ((f : Found) → x ≡ Ok f → ⊥) → Reading limit s a b c a b c r
+  read_bad_line limit a b c {r} bad good = by_case x refl
+    where
+      by_case : (y : Result Found ℕ) → x ≡ y → Reading limit s a b c a b c r
+      by_case (Ok f) e = absurd (good f e)
+      by_case (Err index) e =
+          let l : load s ≡ bad_line index = bad_by from (load s) (sym p ∙ e) in
+          rw (bad index e) (record { answer = sym (ap (read_of limit (counts (length a) (length b) (length c))) l); starts_hold = refl; continues_hold = refl; emoji_hold = refl })
 
   -- WHERE EVERY LINE IS GOOD
-  module _ {f : Found} (e : x ≡ survey.Good f) where
+  module _ {f : Found} (e : x ≡ Ok f) where
     pub read_loads : Loads s from f
     read_loads = good_by s from (load s) refl (sym p ∙ e)
 
@@ -124,28 +125,18 @@ module _ (s : List ℕ) (from : ℕ) {x : Survey} (p : x ≡ surveyed from (load
         j ∙ ap (λ (y : Found). judged_of limit y (counts a b c)) d.finds ∙ same_judgement limit d.version from d.lists (counts a b c) ∙ sym (ap (read_of limit (counts a b c)) d.loads)
 
     -- a refusal leaves the runs as they were
-    module _ (limit : ℕ) (a b c : List ℕ) {r : ReadAnswer} (j : r ≡ judged_of limit f (counts (length a) (length b) (length c))) where
-      so : r ≡ read_of limit (counts (length a) (length b) (length c)) (load s)
-      so = judged_so limit (length a) (length b) (length c) j
-
-      pub read_line_again : {index : ℕ} → r ≡ Line index → Reading limit s a b c a b c (Line index)
-      read_line_again q = record { answer = sym q ∙ so; starts_hold = refl; continues_hold = refl; emoji_hold = refl }
-
-      pub read_short : {list needed : ℕ} → r ≡ Room list needed → Reading limit s a b c a b c (Room list needed)
-      read_short q = record { answer = sym q ∙ so; starts_hold = refl; continues_hold = refl; emoji_hold = refl }
-
-      pub read_refused : {bad : Bad} → r ≡ Refused bad → Reading limit s a b c a b c (Refused bad)
-      read_refused q = record { answer = sym q ∙ so; starts_hold = refl; continues_hold = refl; emoji_hold = refl }
+    pub read_refused : (limit : ℕ) (a b c : List ℕ) {why : ReadRefusal} {r : ReadAnswer} → Err why ≡ judged_of limit f (counts (length a) (length b) (length c)) → r ≡ Err why → Reading limit s a b c a b c r
+    read_refused limit a b c j t = rw t (record { answer = judged_so limit (length a) (length b) (length c) j; starts_hold = refl; continues_hold = refl; emoji_hold = refl })
 
     -- DONE: what is held, and that there is room for it
-    module _ (limit a b c : ℕ) {r : ReadAnswer} (j : r ≡ judged_of limit f (counts a b c)) (g : from ≡ length (piece 10 s) + 1) {h : Held} (q : r ≡ Loaded h) where
+    module _ (limit a b c : ℕ) {h : Held} (j : Ok h ≡ judged_of limit f (counts a b c)) (g : from ≡ length (piece 10 s) + 1) where
       pub read_ready : Ready s f h a b c
       read_ready =
           let d : Loads s from f = read_loads in
-          ready_by d (lists_verdict limit d.lists) (sym (same_judgement limit d.version from d.lists (counts a b c)) ∙ sym (ap (λ (y : Found). judged_of limit y (counts a b c)) d.finds) ∙ sym j ∙ q)
+          ready_by d (lists_verdict limit d.lists) (sym (same_judgement limit d.version from d.lists (counts a b c)) ∙ sym (ap (λ (y : Found). judged_of limit y (counts a b c)) d.finds) ∙ sym j)
         where
-          ready_by : (d : Loads s from f) (v : Verdict) → refused_or Refused v (roomed_for d.version (counts_of d.lists) (counts a b c)) ≡ Loaded h → Ready s f h a b c
-          ready_by d verdict.Fine k =
+          ready_by : (d : Loads s from f) (v : Verdict) → refused_or shared v (roomed_for d.version (counts_of d.lists) (counts a b c)) ≡ Ok h → Ready s f h a b c
+          ready_by d (Ok tt) k =
               let m : Roomed d.version (counts_of d.lists) (counts a b c) h = room_told d.version (counts_of d.lists) (counts a b c) k in
               let n : Laid s d.lists = laid s (holds s d.loads) in
               let o : f.from ≡ length (piece 10 s) + 1 = ap (λ (y : Found). y.from) d.finds ∙ g in
@@ -161,7 +152,7 @@ module _ (s : List ℕ) (from : ℕ) {x : Survey} (p : x ≡ surveyed from (load
                 within = omega (arith, n.within);
                 lines = ap (λ (y : ℕ). drop y s) o ∙ n.lines;
               }
-          ready_by d (verdict.Refused bad) k = let z : ◌≡◌ {A = ℕ} 0 1 = cc in absurd (omega arith)
+          ready_by d (Err bad) k = absurd (cc)
 
 -- THE THREE RUNS, one after the other
 module _ {s : List ℕ} {f : Found} {h : Held} {ra rb rc : ℕ} (y : Ready s f h ra rb rc) where
@@ -209,7 +200,7 @@ module _ {s : List ℕ} {f : Found} {h : Held} {ra rb rc : ℕ} (y : Ready s f h
           ∙ ap (drop (length (group_lines 1 y.lists.continues))) past_starts ∙ drop_at (group_lines 1 y.lists.continues) _ _ refl ∙ sym (append-nil (group_lines 2 y.lists.emoji))
 
       -- WHAT THE RUNS HOLD
-      pub read_done : (limit : ℕ) {c c' : List ℕ} {o : ℕ} → Filled s n (h.emoji / 2) c c' o → Loaded h ≡ read_of limit (counts (length a) (length b) (length c)) (load s) → Reading limit s a b c a' b' c' (Loaded h)
+      pub read_done : (limit : ℕ) {c c' : List ℕ} {o : ℕ} → Filled s n (h.emoji / 2) c c' o → Ok h ≡ read_of limit (counts (length a) (length b) (length c)) (load s) → Reading limit s a b c a' b' c' (Ok h)
       read_done limit {c} {c'} {o} r e =
           let emoji_put : Put y.lists.emoji c c' n 2 o = r.put 2 y.lists.emoji [] (record { list = omega arith; pairs = y.fit.emoji; lines = past_continues }) emoji_even in
           let l : y.lists ≡ lists_in (load s) = sym (ap lists_in y.loads) in
@@ -224,7 +215,7 @@ module _ {s : List ℕ} {f : Found} {h : Held} {ra rb rc : ℕ} (y : Ready s f h
 pub record Done (limit : ℕ) (s starts continues emoji : List ℕ) (h : Held) : Type 0 where
   pub lists : Lists
   pub loads : load s ≡ loaded h.version lists
-  pub rules : lists_verdict limit lists ≡ verdict.Fine
+  pub rules : lists_verdict limit lists ≡ fine
   pub starts_are : take h.starts starts ≡ lists.starts
   pub continues_are : take h.continues continues ≡ lists.continues
   pub emoji_are : take h.emoji emoji ≡ lists.emoji
@@ -232,21 +223,21 @@ pub record Done (limit : ℕ) (s starts continues emoji : List ℕ) (h : Held) :
 record Full (limit : ℕ) (q : Read) (h : Held) : Type 0 where
   lists : Lists
   loads : q ≡ loaded h.version lists
-  rules : lists_verdict limit lists ≡ verdict.Fine
+  rules : lists_verdict limit lists ≡ fine
   held : h ≡ held_of h.version (counts_of lists)
 
-full_by : (limit : ℕ) (rooms : Counts) (q : Read) {h : Held} → read_of limit rooms q ≡ Loaded h → Full limit q h
-full_by limit rooms (bad_line k) e = let z : ◌≡◌ {A = ℕ} 0 1 = cc in absurd (omega arith)
+full_by : (limit : ℕ) (rooms : Each ℕ) (q : Read) {h : Held} → read_of limit rooms q ≡ Ok h → Full limit q h
+full_by limit rooms (bad_line k) e = absurd (cc)
 full_by limit rooms (loaded v L) {h} e = by_verdict (lists_verdict limit L) refl e
   where
-    by_verdict : (x : Verdict) → lists_verdict limit L ≡ x → refused_or Refused x (roomed_for v (counts_of L) rooms) ≡ Loaded h → Full limit (loaded v L) h
-    by_verdict verdict.Fine f k =
+    by_verdict : (x : Verdict) → lists_verdict limit L ≡ x → refused_or shared x (roomed_for v (counts_of L) rooms) ≡ Ok h → Full limit (loaded v L) h
+    by_verdict (Ok tt) f k =
         let m : h ≡ held_of v (counts_of L) = (room_told v (counts_of L) rooms k).held in
         let u : v ≡ h.version = sym (ap (λ (y : Held). y.version) m) in
         record { lists = L; loads = ap (λ (y : Version). loaded y L) u; rules = f; held = m ∙ ap (λ (y : Version). held_of y (counts_of L)) u }
-    by_verdict (verdict.Refused bad) f k = let z : ◌≡◌ {A = ℕ} 0 1 = cc in absurd (omega arith)
+    by_verdict (Err bad) f k = absurd (cc)
 
-pub read_done_told : {limit : ℕ} {s a b c starts continues emoji : List ℕ} {h : Held} → Reading limit s a b c starts continues emoji (Loaded h) → Done limit s starts continues emoji h
+pub read_done_told : {limit : ℕ} {s a b c starts continues emoji : List ℕ} {h : Held} → Reading limit s a b c starts continues emoji (Ok h) → Done limit s starts continues emoji h
 read_done_told {limit} {s} {a} {b} {c} {h = h} f =
     let d : Full limit (load s) h = full_by limit (counts (length a) (length b) (length c)) (load s) (sym f.answer) in
     let l : lists_in (load s) ≡ d.lists = ap lists_in d.loads in
@@ -265,7 +256,7 @@ pub record Lies (h : Held) (a b c : List ℕ) : Type 0 where
   pub in_continues : h.continues ≤ length b
   pub in_emoji : h.emoji ≤ length c
 
-pub loaded_lies : {limit : ℕ} {s a b c starts continues emoji : List ℕ} {r : ReadAnswer} {h : Held} → Reading limit s a b c starts continues emoji r → r ≡ Loaded h → Lies h starts continues emoji
+pub loaded_lies : {limit : ℕ} {s a b c starts continues emoji : List ℕ} {r : ReadAnswer} {h : Held} → Reading limit s a b c starts continues emoji r → r ≡ Ok h → Lies h starts continues emoji
 loaded_lies {limit} {s} {a} {b} {c} {h = h} f q =
     let d : Full limit (load s) h = full_by limit (counts (length a) (length b) (length c)) (load s) {h = h} (sym f.answer ∙ q) in
     let L : Lists = lists_in (load s) in

@@ -6,8 +6,7 @@ use mathlib.Core.List.{List, [], ◌∷◌, ◌++◌}
 use lib.ListN.{length, length-append}
 use native.Mathlib.Omega.{arith}
 use Rattle.basics.specs.Choice.{pick}
-use Rattle.ranges.specs.declared.Flaw.{Flaw}
-use Rattle.ranges.specs.declared.Flaw.TheVariants.{Nowhere, Pair}
+use Rattle.std.specs.Prelude.{Option, None, Some}
 use Rattle.ranges.specs.Rules.{good_pair, flaw_from}
 use Rattle.token.specs.Lists.{Lists}
 use Rattle.lists_file.specs.File.{Pairs, no_pair, pair, ListsFit}
@@ -21,16 +20,16 @@ last_on p [] low high = refl
 last_on p (x ∷ l) low high = last_on x l low high
 
 -- the first flaw, with a pair more
-flaw_more : (t : Bool) (k : ℕ) (f : Flaw) (previous index low high : ℕ) → pick t (flaw_on f previous index low high) (Pair k) ≡ flaw_on (pick t f (Pair k)) previous index low high
+flaw_more : (t : Bool) (k : ℕ) (f : Option ℕ) (previous index low high : ℕ) → pick t (flaw_on f previous index low high) (Some k) ≡ flaw_on (pick t f (Some k)) previous index low high
 flaw_more true k f previous index low high = refl
 flaw_more false k f previous index low high = refl
 
 flaw_on_lem : (k p : ℕ) {l : List ℕ} → Pairs l → (low high : ℕ) → flaw_from k p (l ++ (low ∷ high ∷ [])) ≡ flaw_on (flaw_from k p l) (last_of p l) (k + length l / 2) low high
 unfolding flaw_from
-flaw_on_lem k p no_pair low high = let z : k + 0 / 2 ≡ k = omega arith in ap (λ (n : ℕ). pick (good_pair p low high) Nowhere (Pair n)) (sym z)
+flaw_on_lem k p no_pair low high = let z : k + 0 / 2 ≡ k = omega arith in ap (λ (n : ℕ). pick (good_pair p low high) None (Some n)) (sym z)
 flaw_on_lem k p (pair {low = a} {high = b} {l = l} u v w) low high =
     let z : suc k + length l / 2 ≡ k + suc (suc (length l)) / 2 = omega arith in
-    ap (λ (f : Flaw). pick (good_pair p a b) f (Pair k)) (flaw_on_lem (suc k) b w low high ∙ ap (λ (n : ℕ). flaw_on (flaw_from (suc k) b l) (last_of b l) n low high) z)
+    ap (λ (f : Option ℕ). pick (good_pair p a b) f (Some k)) (flaw_on_lem (suc k) b w low high ∙ ap (λ (n : ℕ). flaw_on (flaw_from (suc k) b l) (last_of b l) n low high) z)
     ∙ flaw_more (good_pair p a b) k (flaw_from (suc k) b l) (last_of b l) (k + suc (suc (length l)) / 2) low high
 
 -- A PAIR MORE: what is kept of the longer list

@@ -12,16 +12,15 @@ use Rattle.lists_file.specs.declared.Entry.{Entry}
 use Rattle.lists_file.specs.File.{record_text, group_lines, Pairs, no_pair, pair}
 use Rattle.lists_file.specs.Lines.{entry}
 use Rattle.lists_file.proofs.Texts.{record_back, record_unmarked}
-use Rattle.lists_in.specs.declared.Step.{Step}
-use Rattle.lists_in.specs.declared.Step.TheVariants.{Record, Bad}
+use Rattle.std.specs.Prelude.{Option, None, Some}
 use Rattle.lists_in.specs.Surveys.{step_of}
-use Rattle.lists_in.specs.Fills.{FillRoom, Stand, Filled}
+use Rattle.lists_in.specs.Fills.{Stand, Filled}
 use Rattle.lists_in.proofs.Steps.{Told, step_told}
 use Rattle.lists_in.proofs.Surveying.{Onward, onward}
 
 -- A RECORD OF A LIST, where it stands: the step there gives it
 pub record First (at which low high : ℕ) (t rest : List ℕ) : Type 0 where
-  pub gives : step_of at t ≡ Record (entry which low high) (at + length (record_text which low high) + 1)
+  pub gives : step_of at t ≡ Some (entry which low high, at + length (record_text which low high) + 1)
   pub behind : after 10 t ≡ rest
 
 first_line : (at which low high : ℕ) (t rest : List ℕ) → which ≤ 2 → low ≤ 0xFFFFFF → high ≤ 0xFFFFFF → t ≡ record_text which low high ++ (10 ∷ rest) → First at which low high t rest
@@ -45,9 +44,6 @@ pub record Filling (s : List ℕ) (from pairs : ℕ) (before run : List ℕ) (at
   pub few : k ≤ pairs
   pub put : (which : ℕ) (l rest : List ℕ) → Stand s from which l rest → length l ≡ pairs * 2 → Halfway s from which l rest before run at k
 
-pub fill_starts : {s : List ℕ} {from pairs : ℕ} {run : List ℕ} → FillRoom s from pairs run → Filling s from pairs run run from 0
-fill_starts h = record { within = h.within; kept = refl; few = omega arith; put = λ which l rest st n. record { holds = refl; lines = st.lines; left = st.pairs; place = refl } }
-
 -- the next pair of the list, and its record
 record Next (which : ℕ) (l rest : List ℕ) (k : ℕ) (t : List ℕ) : Type 0 where
   open_list : drop (k * 2) l ≡ get_or l (k * 2) 0 ∷ get_or l (k * 2 + 1) 0 ∷ drop ((k + 1) * 2) l
@@ -62,7 +58,7 @@ unfolding group_lines
 group_pair which low high m = refl
 
 pair_facts : {m : List ℕ} {low high : ℕ} {n : List ℕ} → Pairs m → m ≡ low ∷ high ∷ n → (low ≤ 0xFFFFFF) × ((high ≤ 0xFFFFFF) × Pairs n)
-pair_facts no_pair e = let z : ◌≡◌ {A = ℕ} 0 1 = cc in absurd (omega arith)
+pair_facts no_pair e = absurd (cc)
 pair_facts {low = a} {high = b} {n = n} (pair {low = x} {high = y} {l = l} u v w) e =
     let p : x ≡ a = cc in
     let q : y ≡ b = cc in
@@ -91,16 +87,16 @@ module _ {s : List ℕ} {from pairs at k : ℕ} {before run : List ℕ} (w : Fil
     stands : First at which (get_or l (k * 2) 0) (get_or l (k * 2 + 1) 0) (drop at s) (group_lines which (drop ((k + 1) * 2) l) ++ rest)
     stands = first_line at which _ _ (drop at s) _ st.list next_pair.low next_pair.high next_pair.lines
 
-  module _ {r : Step} (p : r ≡ step_of at (drop at s)) where
+  module _ {r : Option (Entry × ℕ)} (p : r ≡ step_of at (drop at s)) where
     -- a list of more pairs stands there: so the step gives a record
-    pub fill_bad : r ≡ Bad → Filled s from pairs before run at
+    pub fill_bad : r ≡ None → Filled s from pairs before run at
     fill_bad q =
         record {
           within = w.within;
-          put = λ which l rest st n. let g = (stands which l rest st n).gives in let z : ◌≡◌ {A = ℕ} 0 1 = cc in absurd (omega arith);
+          put = λ which l rest st n. let g = (stands which l rest st n).gives in absurd (cc);
         }
 
-    module _ {e : Entry} {next : ℕ} (q : r ≡ Record e next) where
+    module _ {e : Entry} {next : ℕ} (q : r ≡ Some (e, next)) where
       told : Told at (drop at s) e next
       told = step_told at (drop at s) (sym p ∙ q)
 
@@ -117,8 +113,9 @@ module _ {s : List ℕ} {from pairs at k : ℕ} {before run : List ℕ} (w : Fil
                 let x = next_pair which l rest st n in
                 let g = stands which l rest st n in
                 let y = half which l rest st n in
-                let a : e ≡ entry which (get_or l (k * 2) 0) (get_or l (k * 2 + 1) 0) = cc g.gives in
-                let b : next ≡ at + length (record_text which (get_or l (k * 2) 0) (get_or l (k * 2 + 1) 0)) + 1 = cc g.gives in
+                let z : (e, next) ≡ (entry which (get_or l (k * 2) 0) (get_or l (k * 2 + 1) 0), at + length (record_text which (get_or l (k * 2) 0) (get_or l (k * 2 + 1) 0)) + 1) = cc g.gives in
+                let a : e ≡ entry which (get_or l (k * 2) 0) (get_or l (k * 2 + 1) 0) = ap (λ (i : Entry × ℕ). i.0) z in
+                let b : next ≡ at + length (record_text which (get_or l (k * 2) 0) (get_or l (k * 2 + 1) 0)) + 1 = ap (λ (i : Entry × ℕ). i.1) z in
                 record {
                   holds = written l (get_or l (k * 2) 0) (get_or l (k * 2 + 1) 0) (omega arith) (ap (λ (i : Entry). i.low) a) (ap (λ (i : Entry). i.high) a) x.open_list y.holds;
                   lines = sym fill_next.rest ∙ g.behind;

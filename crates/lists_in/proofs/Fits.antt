@@ -5,12 +5,11 @@ use mathlib.Core.List.{List}
 use lib.ListN.{length, take}
 use lib.Seq.{length-take-le}
 use Rattle.lists_in.specs.declared.Held.{Held}
-use Rattle.lists_in.specs.declared.ReadAnswer.{ReadAnswer}
-use Rattle.lists_in.specs.declared.ReadAnswer.TheVariants.{Loaded}
-use Rattle.lists_in.specs.Answers.{Reading}
+use Rattle.std.specs.Prelude.{Ok}
+use Rattle.lists_in.specs.Answers.{ReadAnswer, Reading}
 use Rattle.lists_in.proofs.Calls.{loaded_lies}
 
-module _ {limit : ℕ} {s a b c starts continues emoji : List ℕ} {r : ReadAnswer} {h : Held} (f : Reading limit s a b c starts continues emoji r) (q : r ≡ Loaded h) where
+module _ {limit : ℕ} {s a b c starts continues emoji : List ℕ} {r : ReadAnswer} {h : Held} (f : Reading limit s a b c starts continues emoji r) (q : r ≡ Ok h) where
   pub starts_fit : h.starts ≤ length starts
   starts_fit = (loaded_lies f q).in_starts
 

@@ -1,5 +1,4 @@
 pub mod Counting
-pub mod Judgements
 pub mod Steps
 pub mod Surveying
 pub mod Filling

@@ -1,29 +1,36 @@
 -- `lists_in::read_lists` meets its contract: 9, 3 and 7, and then the three runs (Calls).
-use mathlib.Core.Path.{refl, sym, ◌∙◌}
-use Rattle.lists_in.proofs.Calls.{read_bad_line, judged_so, read_line_again, read_short, read_refused, read_ready, starts_fit, continues_fit, emoji_fit, read_done}
+use Rattle.std.specs.Prelude.{◌≡◌, Ok, Err}
+use mathlib.Core.Path.{refl}
+use borrow.Author.Rules.{rules}
 use native.Mathlib.Nat.{le_refl}
+use Rattle.lists_in.proofs.Calls.{judged_so, read_bad_line, read_refused, read_ready, starts_fit, continues_fit, emoji_fit, read_done}
 use Rattle.lists_in.proofs.read_lists.Goals as goal
 
-pub returns-in-Line : goal.returns-in-Line
-returns-in-Line c = search read_bad_line
+pub returns-in_err-found : goal.returns-in_err-found
+returns-in_err-found c = read_bad_line _ _ c.survey_file.ensures _ _ _ _ (λ index e. search rules) (λ f e. search rules)
+
+pub returns-in_err-held : goal.returns-in_err-held
+returns-in_err-held c =
+    let good : c.survey_file.result ≡ Ok c.in_ok-found.found = search rules in
+    let told : c.from_residual-in_err-held.result ≡ Err c.in_err-held.field-0.0 = search rules in
+    read_refused _ _ c.survey_file.ensures good _ _ _ _ c.in_err-held.ensures told
 
 pub fill-past_starts-requires : goal.fill-past_starts-requires
-fill-past_starts-requires c = starts_fit (read_ready _ _ c.survey_file.ensures c.in-Good.is _ _ _ _ c.judged.ensures refl c.in-Loaded.is) (le_refl _)
+fill-past_starts-requires c =
+    let good : c.survey_file.result ≡ Ok c.in_ok-found.found = search rules in
+    starts_fit (read_ready _ _ c.survey_file.ensures good _ _ _ _ c.in_ok-held.ensures refl) (le_refl _)
 
 pub fill-past_continues-requires : goal.fill-past_continues-requires
-fill-past_continues-requires c = continues_fit (read_ready _ _ c.survey_file.ensures c.in-Good.is _ _ _ _ c.judged.ensures refl c.in-Loaded.is) c.fill-past_starts.ensures (le_refl _)
+fill-past_continues-requires c =
+    let good : c.survey_file.result ≡ Ok c.in_ok-found.found = search rules in
+    continues_fit (read_ready _ _ c.survey_file.ensures good _ _ _ _ c.in_ok-held.ensures refl) c.fill-past_starts.ensures (le_refl _)
 
 pub fill-requires : goal.fill-requires
-fill-requires c = emoji_fit (read_ready _ _ c.survey_file.ensures c.in-Good.is _ _ _ _ c.judged.ensures refl c.in-Loaded.is) c.fill-past_starts.ensures c.fill-past_continues.ensures (le_refl _)
+fill-requires c =
+    let good : c.survey_file.result ≡ Ok c.in_ok-found.found = search rules in
+    emoji_fit (read_ready _ _ c.survey_file.ensures good _ _ _ _ c.in_ok-held.ensures refl) c.fill-past_starts.ensures c.fill-past_continues.ensures (le_refl _)
 
-pub returns-in-Loaded : goal.returns-in-Loaded
-returns-in-Loaded c = read_done (read_ready _ _ c.survey_file.ensures c.in-Good.is _ _ _ _ c.judged.ensures refl c.in-Loaded.is) c.fill-past_starts.ensures c.fill-past_continues.ensures _ c.fill.ensures (sym c.in-Loaded.is ∙ (judged_so _ _ c.survey_file.ensures c.in-Good.is _ _ _ _ c.judged.ensures))
-
-pub returns-in-Line-judged : goal.returns-in-Line-judged
-returns-in-Line-judged c = search read_line_again
-
-pub returns-in-Room : goal.returns-in-Room
-returns-in-Room c = search read_short
-
-pub returns-in-Refused : goal.returns-in-Refused
-returns-in-Refused c = search read_refused
+pub returns : goal.returns
+returns c =
+    let good : c.survey_file.result ≡ Ok c.in_ok-found.found = search rules in
+    read_done (read_ready _ _ c.survey_file.ensures good _ _ _ _ c.in_ok-held.ensures refl) c.fill-past_starts.ensures c.fill-past_continues.ensures _ c.fill.ensures (judged_so _ _ c.survey_file.ensures good _ _ _ _ c.in_ok-held.ensures)
