@@ -14,33 +14,29 @@ use text::CodePoint;
 pub fn last_of(c: CodePoint) -> Last
     ensures { result ≡ last_char c }
 {
-    if c == 0x2F {
-        return Last::ASlash;
+    match c {
+        0x2F => Last::ASlash,
+        0x2A => Last::AStar,
+        _ => Last::PlainChar,
     }
-    if c == 0x2A {
-        return Last::AStar;
-    }
-    Last::PlainChar
 }
 
 // In a block comment, after a star.
 pub fn star_block(doc: bool, depth: u32, c: CodePoint) -> Mode
     ensures { result ≡ block_mode doc depth AStar c }
 {
-    if c == 0x2F {
-        if depth == 0 {
-            return Mode::Start { gap: !doc };
-        }
-        return Mode::Block {
-            doc: doc,
+    match (c, depth) {
+        (0x2F, 0) => Mode::Start { gap: !doc },
+        (0x2F, _) => Mode::Block {
+            doc,
             depth: depth - 1,
             last: Last::PlainChar,
-        };
-    }
-    Mode::Block {
-        doc: doc,
-        depth: depth,
-        last: last_of(c),
+        },
+        _ => Mode::Block {
+            doc,
+            depth,
+            last: last_of(c),
+        },
     }
 }
 
@@ -49,28 +45,18 @@ fn in_block(doc: bool, depth: u32, last: Last, c: CodePoint) -> Mode
     requires { depth < 4294967295 }
     ensures { result ≡ block_mode doc depth last c }
 {
-    let next = last_of(c);
-    match last {
-        Last::PlainChar => Mode::Block {
-            doc: doc,
-            depth: depth,
-            last: next,
+    match (last, c) {
+        (Last::AStar, _) => star_block(doc, depth, c),
+        (Last::ASlash, 0x2A) => Mode::Block {
+            doc,
+            depth: depth + 1,
+            last: Last::PlainChar,
         },
-        Last::ASlash => {
-            if c == 0x2A {
-                return Mode::Block {
-                    doc: doc,
-                    depth: depth + 1,
-                    last: Last::PlainChar,
-                };
-            }
-            Mode::Block {
-                doc: doc,
-                depth: depth,
-                last: next,
-            }
-        }
-        Last::AStar => star_block(doc, depth, c),
+        _ => Mode::Block {
+            doc,
+            depth,
+            last: last_of(c),
+        },
     }
 }
 
@@ -86,9 +72,10 @@ pub fn doc_goes(c: CodePoint) -> Goes
     ensures { result ≡ doc_goes c }
 {
     if ends_line(c) {
-        return Goes::Ends(false);
+        Goes::Ends(false)
+    } else {
+        Goes::Takes(Mode::DocLine)
     }
-    Goes::Takes(Mode::DocLine)
 }
 
 // In a line comment that is none (mode PlainLine).
@@ -96,9 +83,10 @@ pub fn plain_goes(c: CodePoint) -> Goes
     ensures { result ≡ plain_goes c }
 {
     if ends_line(c) {
-        return Goes::Ends(true);
+        Goes::Ends(true)
+    } else {
+        Goes::Drops(Mode::PlainLine)
     }
-    Goes::Drops(Mode::PlainLine)
 }
 
 // In a block comment (mode Block): a doc comment is written, another one is not.
@@ -108,7 +96,8 @@ pub fn block_goes(doc: bool, depth: u32, last: Last, c: CodePoint) -> Goes
 {
     let mode = in_block(doc, depth, last, c);
     if doc {
-        return Goes::Takes(mode);
+        Goes::Takes(mode)
+    } else {
+        Goes::Drops(mode)
     }
-    Goes::Drops(mode)
 }

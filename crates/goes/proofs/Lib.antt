@@ -1,4 +1,2 @@
 pub mod Choices
-pub mod Among
-pub mod Modes
-pub mod Suffix
+pub mod Picks

@@ -2,9 +2,9 @@
 #![tactic(auto)]
 
 ghost use Rattle.std.specs.Prelude.{◌≡◌};
-ghost use Rattle.ranges.specs.Rules.{Good};
 ghost use Rattle.goes.specs.Suffix.{suffix_goes};
 
+use lists::Lists;
 use machine::Mode;
 use text::CodePoint;
 
@@ -17,12 +17,12 @@ pub enum Goes {
 }
 
 // After a literal (mode Suffix).
-pub fn suffix_goes(c: CodePoint, starts: &[u32]) -> Goes
-    requires { Good starts.now }
-    ensures { result ≡ suffix_goes starts.now c }
+pub fn suffix_goes(c: CodePoint, lists: &Lists) -> Goes
+    ensures { result ≡ suffix_goes lists.now c }
 {
-    if classes::id_start(c, starts) {
-        return Goes::Takes(Mode::InName);
+    if lists.is_start(c) {
+        Goes::Takes(Mode::InName)
+    } else {
+        Goes::Ends(false)
     }
-    Goes::Ends(false)
 }

@@ -2,228 +2,160 @@
 #![tactic(auto)]
 
 ghost use Rattle.std.specs.Prelude.{◌≡◌};
-ghost use Rattle.basics.specs.Tests.{within};
-ghost use Rattle.ranges.specs.Rules.{Good};
-ghost use Rattle.token.specs.Numbers.{hex_digit, decimals, hexadecimals};
-ghost use Rattle.machine.specs.Machine.{sign_mark, exponent_mark};
+ghost use Rattle.token.specs.Numbers.{decimals, hexadecimals};
 ghost use Rattle.goes.specs.Went.{Among};
 ghost use Rattle.number_turns.specs.Numbers.{fraction_goes, exponent_goes, digits_goes, zero_goes, some_goes, based_goes, hex_goes, dot_goes, in_fraction_goes, e_goes};
 ghost use Rattle.number_turns.specs.Numbered.{number_modes, Numbered};
 
 use goes::Goes;
+use lists::Lists;
 use machine::Mode;
 use text::CodePoint;
-
-// Whether c is between two others, or one of them.
-fn is_within(c: CodePoint, low: CodePoint, high: CodePoint) -> bool
-    ensures { result ≡ within low high c }
-{
-    if low <= c { c <= high } else { false }
-}
-
-// Whether c is a hexadecimal digit.
-fn is_hex(c: CodePoint) -> bool
-    ensures { result ≡ hex_digit c }
-{
-    if classes::is_digit(c) {
-        return true;
-    }
-    if is_within(c, 0x61, 0x66) {
-        return true;
-    }
-    is_within(c, 0x41, 0x46)
-}
 
 // Whether c is a decimal digit or an underscore.
 fn is_decimal(c: CodePoint) -> bool
     ensures { result ≡ decimals c }
 {
-    if classes::is_digit(c) {
-        return true;
-    }
-    c == 0x5F
+    classes::is_digit(c) || c == 0x5F
 }
 
 // Whether c is a hexadecimal digit or an underscore.
 fn is_hexadecimal(c: CodePoint) -> bool
     ensures { result ≡ hexadecimals c }
 {
-    if is_hex(c) {
-        return true;
-    }
-    c == 0x5F
-}
-
-// Whether c is the sign of an exponent.
-fn is_sign(c: CodePoint) -> bool
-    ensures { result ≡ sign_mark c }
-{
-    if c == 0x2D {
-        return true;
-    }
-    c == 0x2B
-}
-
-// Whether an exponent begins with c.
-fn is_exponent(c: CodePoint) -> bool
-    ensures { result ≡ exponent_mark c }
-{
-    if c == 0x65 {
-        return true;
-    }
-    c == 0x45
+    token::is_hex_digit(c) || c == 0x5F
 }
 
 // After the digits of a number: a point, an exponent or a suffix.
-fn fraction_goes(c: CodePoint, starts: &[u32]) -> Goes
-    requires { Good starts.now }
-    ensures { result ≡ fraction_goes starts.now c }
+fn fraction_goes(c: CodePoint, lists: &Lists) -> Goes
+    ensures { result ≡ fraction_goes lists.now c }
 {
-    if c == 0x2E {
-        return Goes::Takes(Mode::GotDot);
+    match c {
+        0x2E => Goes::Takes(Mode::GotDot),
+        0x65 | 0x45 => Goes::Takes(Mode::GotE),
+        _ => goes::suffix_goes(c, lists),
     }
-    if is_exponent(c) {
-        return Goes::Takes(Mode::GotE);
-    }
-    goes::suffix_goes(c, starts)
 }
 
 // In the digits of an exponent (mode InExponent).
-fn exponent_goes(c: CodePoint, starts: &[u32]) -> Goes
-    requires { Good starts.now }
-    ensures { result ≡ exponent_goes starts.now c }
+fn exponent_goes(c: CodePoint, lists: &Lists) -> Goes
+    ensures { result ≡ exponent_goes lists.now c }
 {
     if is_decimal(c) {
-        return Goes::Takes(Mode::InExponent);
+        Goes::Takes(Mode::InExponent)
+    } else {
+        goes::suffix_goes(c, lists)
     }
-    goes::suffix_goes(c, starts)
 }
 
 // In decimal digits (mode InDigits).
-fn digits_goes(c: CodePoint, starts: &[u32]) -> Goes
-    requires { Good starts.now }
-    ensures { result ≡ digits_goes starts.now c }
+fn digits_goes(c: CodePoint, lists: &Lists) -> Goes
+    ensures { result ≡ digits_goes lists.now c }
 {
     if is_decimal(c) {
-        return Goes::Takes(Mode::InDigits);
+        Goes::Takes(Mode::InDigits)
+    } else {
+        fraction_goes(c, lists)
     }
-    fraction_goes(c, starts)
 }
 
 // After a first 0 (mode GotZero): a base, or digits.
-fn zero_goes(c: CodePoint, starts: &[u32]) -> Goes
-    requires { Good starts.now }
-    ensures { result ≡ zero_goes starts.now c }
+fn zero_goes(c: CodePoint, lists: &Lists) -> Goes
+    ensures { result ≡ zero_goes lists.now c }
 {
-    if c == 0x62 {
-        return Goes::Takes(Mode::InBased { some: false });
+    match c {
+        0x62 | 0x6F => Goes::Takes(Mode::InBased { some: false }),
+        0x78 => Goes::Takes(Mode::InHex { some: false }),
+        _ => digits_goes(c, lists),
     }
-    if c == 0x6F {
-        return Goes::Takes(Mode::InBased { some: false });
-    }
-    if c == 0x78 {
-        return Goes::Takes(Mode::InHex { some: false });
-    }
-    digits_goes(c, starts)
 }
 
 // After the digits of a number with a base: with no digit, only a suffix may come.
-fn some_goes(some: bool, c: CodePoint, starts: &[u32]) -> Goes
-    requires { Good starts.now }
-    ensures { result ≡ some_goes starts.now some c }
+fn some_goes(some: bool, c: CodePoint, lists: &Lists) -> Goes
+    ensures { result ≡ some_goes lists.now some c }
 {
     if some {
-        return fraction_goes(c, starts);
+        fraction_goes(c, lists)
+    } else {
+        goes::suffix_goes(c, lists)
     }
-    goes::suffix_goes(c, starts)
 }
 
 // After 0b and 0o (mode InBased); `some` says that a digit came.
-fn based_goes(some: bool, c: CodePoint, starts: &[u32]) -> Goes
-    requires { Good starts.now }
-    ensures { result ≡ based_goes starts.now some c }
+fn based_goes(some: bool, c: CodePoint, lists: &Lists) -> Goes
+    ensures { result ≡ based_goes lists.now some c }
 {
     if is_decimal(c) {
-        if some {
-            return Goes::Takes(Mode::InBased { some: true });
-        }
-        return Goes::Takes(Mode::InBased {
-            some: classes::is_digit(c),
-        });
+        Goes::Takes(Mode::InBased {
+            some: some || classes::is_digit(c),
+        })
+    } else {
+        some_goes(some, c, lists)
     }
-    some_goes(some, c, starts)
 }
 
 // After 0x (mode InHex); `some` says that a digit came.
-fn hex_goes(some: bool, c: CodePoint, starts: &[u32]) -> Goes
-    requires { Good starts.now }
-    ensures { result ≡ hex_goes starts.now some c }
+fn hex_goes(some: bool, c: CodePoint, lists: &Lists) -> Goes
+    ensures { result ≡ hex_goes lists.now some c }
 {
     if is_hexadecimal(c) {
-        if some {
-            return Goes::Takes(Mode::InHex { some: true });
-        }
-        return Goes::Takes(Mode::InHex { some: is_hex(c) });
+        Goes::Takes(Mode::InHex {
+            some: some || token::is_hex_digit(c),
+        })
+    } else {
+        some_goes(some, c, lists)
     }
-    some_goes(some, c, starts)
 }
 
 // After the point of a number (mode GotDot): with a point or a name after it, it was a token of its own.
-fn dot_goes(c: CodePoint, starts: &[u32]) -> Goes
-    requires { Good starts.now }
-    ensures { result ≡ dot_goes starts.now c }
+fn dot_goes(c: CodePoint, lists: &Lists) -> Goes
+    ensures { result ≡ dot_goes lists.now c }
 {
-    if c == 0x2E {
-        return Goes::Ends(false);
+    if c == 0x2E || lists.is_start(c) {
+        Goes::Ends(false)
+    } else if classes::is_digit(c) {
+        Goes::Takes(Mode::InFraction)
+    } else {
+        Goes::Ends(false)
     }
-    if classes::id_start(c, starts) {
-        return Goes::Ends(false);
-    }
-    if classes::is_digit(c) {
-        return Goes::Takes(Mode::InFraction);
-    }
-    Goes::Ends(false)
 }
 
 // In the digits after the point (mode InFraction).
-fn in_fraction_goes(c: CodePoint, starts: &[u32]) -> Goes
-    requires { Good starts.now }
-    ensures { result ≡ in_fraction_goes starts.now c }
+fn in_fraction_goes(c: CodePoint, lists: &Lists) -> Goes
+    ensures { result ≡ in_fraction_goes lists.now c }
 {
-    if is_decimal(c) {
-        return Goes::Takes(Mode::InFraction);
+    match c {
+        _ if is_decimal(c) => Goes::Takes(Mode::InFraction),
+        0x65 | 0x45 => Goes::Takes(Mode::GotE),
+        _ => goes::suffix_goes(c, lists),
     }
-    if is_exponent(c) {
-        return Goes::Takes(Mode::GotE);
-    }
-    goes::suffix_goes(c, starts)
 }
 
 // After e (mode GotE): a sign, or the digits of the exponent.
-fn e_goes(c: CodePoint, starts: &[u32]) -> Goes
-    requires { Good starts.now }
-    ensures { result ≡ e_goes starts.now c }
+fn e_goes(c: CodePoint, lists: &Lists) -> Goes
+    ensures { result ≡ e_goes lists.now c }
 {
-    if is_sign(c) {
-        return Goes::Takes(Mode::InExponent);
+    match c {
+        0x2D | 0x2B => Goes::Takes(Mode::InExponent),
+        _ => exponent_goes(c, lists),
     }
-    exponent_goes(c, starts)
 }
 
 // IN A NUMBER. No other mode is asked for.
-pub fn in_number(mode: Mode, c: CodePoint, starts: &[u32]) -> Goes
-    requires { Good starts.now × Among number_modes mode }
-    ensures { Numbered starts.now mode c result }
+#[tactic(auto, using(goes::proofs::Picks::went_pick))]
+pub fn in_number(mode: Mode, c: CodePoint, lists: &Lists) -> Goes
+    requires { Among number_modes mode }
+    ensures { Numbered lists.now.starts mode c result }
 {
     match mode {
-        Mode::GotZero => zero_goes(c, starts),
-        Mode::InDigits => digits_goes(c, starts),
-        Mode::InBased { some } => based_goes(some, c, starts),
-        Mode::InHex { some } => hex_goes(some, c, starts),
-        Mode::GotDot => dot_goes(c, starts),
-        Mode::InFraction => in_fraction_goes(c, starts),
-        Mode::GotE => e_goes(c, starts),
-        Mode::InExponent => exponent_goes(c, starts),
+        Mode::GotZero => zero_goes(c, lists),
+        Mode::InDigits => digits_goes(c, lists),
+        Mode::InBased { some } => based_goes(some, c, lists),
+        Mode::InHex { some } => hex_goes(some, c, lists),
+        Mode::GotDot => dot_goes(c, lists),
+        Mode::InFraction => in_fraction_goes(c, lists),
+        Mode::GotE => e_goes(c, lists),
+        Mode::InExponent => exponent_goes(c, lists),
         _ => Goes::Drops(Mode::Broken),
     }
 }

@@ -50,15 +50,14 @@ module _ (L : Lists) (p c : ℕ) where
   late_last : F (pick (is 'single' c) GotQuote (pick (is 'double' c) InString (pick (smiling L c) InBadWord (Start false)))) ≡ late c
   late_last = of_first F ((is 'single' c, GotQuote) ∷ (is 'double' c, InString) ∷ (smiling L c, InBadWord) ∷ []) (Start false)
 
-  late_as : F (late_mode L.emoji c) ≡ pick (is '#' c) (F GotHash) (pick (is_symbol symbols c) (F (Start false)) (late c))
-  unfolding late_mode
+  late_as : F (late_mode L c) ≡ pick (is '#' c) (F GotHash) (pick (is_symbol symbols c) (F (Start false)) (late c))
   late_as = of_first_as F ((is '#' c, GotHash) ∷ []) (late_last ∙ symbol_late (is_symbol symbols c) refl)
 
-  other_as : F (other_mode L.starts L.emoji c) ≡ at_other L p c
-  unfolding other_mode at_other
+  other_as : F (other_mode L c) ≡ at_other L p c
+  unfolding at_other
   other_as = of_first_as F ((is 'r' c, GotR) ∷ (is 'k' c, GotK) ∷ (is 'b' c, GotB) ∷ (is 'c' c, GotC) ∷ (starting L c, InWord) ∷ (digit c, pick (is '0' c) GotZero InDigits) ∷ []) late_as
 
-  pub first_as : (gap : Bool) → begun p c (first_of L.starts L.emoji gap c) ≡ at_start L p gap c
-  unfolding first_of at_start
+  pub first_as : (gap : Bool) → begun p c (first_of L gap c) ≡ at_start L p gap c
+  unfolding at_start
   first_as true = of_first_as (begun p c) ((is '/' c, Holds (OneSlash true)) ∷ (is_whitespace c, Holds (Start true)) ∷ []) other_as
   first_as false = of_first_as (begun p c) ((is '/' c, Holds (OneSlash false)) ∷ (is_whitespace c, Blank (Start true)) ∷ []) other_as

@@ -1,10 +1,10 @@
--- Where a token begins: the mode after its first character, and what is written. Below, a are the starts, e the emoji.
-use Rattle.std.specs.Prelude.{ℕ, List, [], ◌∷◌, Bool, true, false}
+-- Where a token begins: the mode after its first character, and what is written.
+use Rattle.std.specs.Prelude.{ℕ, [], ◌∷◌, Bool, true, false}
 use Rattle.basics.specs.Choice.{pick}
-use Rattle.classes.specs.Identifiers.{digit, id_start}
-use Rattle.classes.specs.Emoji.{emoji_char}
+use Rattle.classes.specs.Identifiers.{digit}
 use Rattle.classes.specs.Whitespace.{is_whitespace}
 use Rattle.token.specs.Names.{is, 'newline', 'double', '#', 'single', '/', '0', 'b', 'c', 'k', 'r'}
+use Rattle.token.specs.Lists.{Lists, starting, smiling}
 use Rattle.machine.specs.declared.Mode.{Mode}
 use Rattle.machine.specs.declared.Mode.TheVariants.{Start, OneSlash, InWord, InBadWord, InString, GotR, GotK, GotB, GotC, GotHash, GotQuote, GotZero, InDigits}
 use Rattle.machine.specs.Machine.{Next, taken, silent}
@@ -12,28 +12,28 @@ use Rattle.turns.specs.declared.First.{First}
 use Rattle.turns.specs.declared.First.TheVariants.{Writes, Holds, Blank}
 
 -- with no letter and no digit: #, quotes, emoji, and one character that is a token or unknown
-unfoldable pub late_mode : (e : List ℕ) (c : ℕ) → Mode
-late_mode e c =
+abbrev pub late_mode : Lists → (c : ℕ) → Mode
+late_mode L c =
     pick (is '#' c) GotHash
     (pick (is 'single' c) GotQuote
     (pick (is 'double' c) InString
-    (pick (emoji_char e c) InBadWord
+    (pick (smiling L c) InBadWord
     (Start false))))
 
 -- with no slash and no whitespace
-unfoldable pub other_mode : (a e : List ℕ) (c : ℕ) → Mode
-other_mode a e c =
+abbrev pub other_mode : Lists → (c : ℕ) → Mode
+other_mode L c =
     pick (is 'r' c) GotR
     (pick (is 'k' c) GotK
     (pick (is 'b' c) GotB
     (pick (is 'c' c) GotC
-    (pick (id_start a c) InWord
+    (pick (starting L c) InWord
     (pick (digit c) (pick (is '0' c) GotZero InDigits)
-    (late_mode e c))))))
+    (late_mode L c))))))
 
 -- with any character: a slash is held back; whitespace writes one newline, or nothing where trivia stands before it
-unfoldable pub first_of : (a e : List ℕ) (gap : Bool) (c : ℕ) → First
-first_of a e gap c = pick (is '/' c) (Holds (OneSlash gap)) (pick (is_whitespace c) (pick gap (Holds (Start true)) (Blank (Start true))) (Writes (other_mode a e c)))
+abbrev pub first_of : Lists → (gap : Bool) (c : ℕ) → First
+first_of L gap c = pick (is '/' c) (Holds (OneSlash gap)) (pick (is_whitespace c) (pick gap (Holds (Start true)) (Blank (Start true))) (Writes (other_mode L c)))
 
 -- what that means, as the machine says it, at the place p
 abbrev pub begun : (p c : ℕ) → First → Next

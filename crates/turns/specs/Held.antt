@@ -18,25 +18,25 @@ abbrev pub plainly : Goes → Turn
 plainly g = turn Nothing g
 
 -- what trivia writes: one newline for a run of it
-unfoldable pub newline_or : (gap : Bool) → Before
+abbrev pub newline_or : (gap : Bool) → Before
 newline_or gap = pick gap Nothing Newline
 
 -- mode OneSlash, after /: a comment, or the slash was a token
-unfoldable pub one_slash : (gap : Bool) (c : ℕ) → Turn
+abbrev pub one_slash : (gap : Bool) (c : ℕ) → Turn
 one_slash r c = pick (is '/' c) (plainly (Drops (TwoSlashes r))) (pick (is '*' c) (plainly (Drops (SlashStar r))) (turn Slash (Ends false)))
 
 -- mode TwoSlashes, after //: an inner doc comment, three slashes, or trivia
-unfoldable pub two_slashes : (gap : Bool) (c : ℕ) → Turn
+abbrev pub two_slashes : (gap : Bool) (c : ℕ) → Turn
 two_slashes r c = pick (is '!' c) (turn Slashes (Takes DocLine)) (pick (is '/' c) (plainly (Drops (ThreeSlashes r))) (turn (newline_or r) (plain_goes c)))
 
 -- mode ThreeSlashes, after ///: with a fourth it is trivia, else an outer doc comment
-unfoldable pub three_slashes : (gap : Bool) (c : ℕ) → Turn
+abbrev pub three_slashes : (gap : Bool) (c : ℕ) → Turn
 three_slashes r c = pick (is '/' c) (turn (newline_or r) (Drops PlainLine)) (turn Slashes3 (doc_goes c))
 
 -- mode SlashStar, after /*: an inner doc comment, two stars, or trivia
-unfoldable pub slash_star : (gap : Bool) (c : ℕ) → Turn
+abbrev pub slash_star : (gap : Bool) (c : ℕ) → Turn
 slash_star r c = pick (is '!' c) (turn Star (Takes (Block true 0 PlainChar))) (pick (is '*' c) (plainly (Drops (SlashStars r))) (turn (newline_or r) (Drops (Block false 0 (last_char c)))))
 
 -- mode SlashStars, after /**: with a third star or with its end it is trivia, else an outer doc comment
-unfoldable pub slash_stars : (gap : Bool) (c : ℕ) → Turn
+abbrev pub slash_stars : (gap : Bool) (c : ℕ) → Turn
 slash_stars r c = pick (or (is '*' c) (is '/' c)) (turn (newline_or r) (Drops (block_mode false 0 AStar c))) (turn Stars (Takes (block_mode true 0 AStar c)))

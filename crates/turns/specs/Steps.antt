@@ -1,24 +1,15 @@
--- What the step of one character asks and promises: it is the machine's, for any places.
+-- What the step of one character promises: it is the machine's, for any places.
 use Rattle.std.specs.Prelude.{ℕ, ◌≡◌, Bool, List, [], ◌∷◌, ◌++◌}
 use Rattle.basics.specs.Choice.{pick}
-use Rattle.ranges.specs.Rules.{Good}
 use Rattle.token.specs.Names.{'newline'}
 use Rattle.token.specs.Lists.{Lists, lent}
 use Rattle.machine.specs.declared.Mode.{Mode}
 use Rattle.machine.specs.Machine.{Next, preceded, at_start, step}
-use Rattle.goes.specs.Went.{Shallow}
 use Rattle.turns.specs.declared.Before.{Before}
 use Rattle.turns.specs.declared.Shown.{Shown}
 use Rattle.turns.specs.declared.Shown.TheVariants.{Itself, Line, None}
 use Rattle.turns.specs.declared.Stepped.{Stepped}
 use Rattle.turns.specs.Shown.{before_out}
-
--- the lists are good, and depth and hashes can be counted one further
-pub record Stepping (mode : Mode) (starts continues emoji : List ℕ) : Type 0 where
-  pub starts_good : Good starts
-  pub continues_good : Good continues
-  pub emoji_good : Good emoji
-  pub shallow : Shallow mode
 
 -- what is written for the character c itself
 abbrev pub shown_out : (c : ℕ) → Shown → List ℕ

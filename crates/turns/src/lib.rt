@@ -2,16 +2,15 @@
 #![tactic(auto)]
 
 ghost use Rattle.std.specs.Prelude.{◌≡◌};
-ghost use Rattle.ranges.specs.Rules.{Good};
-ghost use Rattle.token.specs.Lists.{lent};
 ghost use Rattle.machine.specs.declared.Mode.TheVariants.{Block};
 ghost use Rattle.goes.specs.Went.{Went, Among, Shallow};
 ghost use Rattle.turns.specs.First.{late_mode, other_mode, first_of};
 ghost use Rattle.turns.specs.Held.{turn, newline_or, one_slash, two_slashes, three_slashes, slash_star, slash_stars};
 ghost use Rattle.turns.specs.Turned.{Turned, token_modes};
-ghost use Rattle.turns.specs.Steps.{Stepping, Begins, Does};
+ghost use Rattle.turns.specs.Steps.{Begins, Does};
 
 use goes::Goes;
+use lists::Lists;
 use machine::{Last, Mode};
 use text::CodePoint;
 
@@ -60,69 +59,47 @@ pub struct Stepped {
 }
 
 // The mode after the first character of a token: punctuation, quotes, emoji, anything else.
-fn late_mode(c: CodePoint, emoji: &[u32]) -> Mode
-    requires { Good emoji.now }
-    ensures { result ≡ late_mode emoji.now c }
+fn late_mode(c: CodePoint, lists: &Lists) -> Mode
+    ensures { result ≡ late_mode lists.now c }
 {
-    if c == 0x23 {
-        return Mode::GotHash;
+    match c {
+        0x23 => Mode::GotHash,
+        0x27 => Mode::GotQuote,
+        0x22 => Mode::InString,
+        _ if lists.is_emoji(c) => Mode::InBadWord,
+        _ => Mode::Start { gap: false },
     }
-    if c == 0x27 {
-        return Mode::GotQuote;
-    }
-    if c == 0x22 {
-        return Mode::InString;
-    }
-    if classes::emoji_char(c, emoji) {
-        return Mode::InBadWord;
-    }
-    Mode::Start { gap: false }
 }
 
 // The mode after the first character of a token that is no slash and no whitespace.
-fn other_mode(c: CodePoint, starts: &[u32], emoji: &[u32]) -> Mode
-    requires { Good starts.now × Good emoji.now }
-    ensures { result ≡ other_mode starts.now emoji.now c }
+fn other_mode(c: CodePoint, lists: &Lists) -> Mode
+    ensures { result ≡ other_mode lists.now c }
 {
-    if c == 0x72 {
-        return Mode::GotR;
+    match c {
+        0x72 => Mode::GotR,
+        0x6B => Mode::GotK,
+        0x62 => Mode::GotB,
+        0x63 => Mode::GotC,
+        _ if lists.is_start(c) => Mode::InWord,
+        0x30 => Mode::GotZero,
+        0x31..=0x39 => Mode::InDigits,
+        _ => late_mode(c, lists),
     }
-    if c == 0x6B {
-        return Mode::GotK;
-    }
-    if c == 0x62 {
-        return Mode::GotB;
-    }
-    if c == 0x63 {
-        return Mode::GotC;
-    }
-    if classes::id_start(c, starts) {
-        return Mode::InWord;
-    }
-    if c == 0x30 {
-        return Mode::GotZero;
-    }
-    if classes::is_digit(c) {
-        return Mode::InDigits;
-    }
-    late_mode(c, emoji)
 }
 
 // The first character of a token; `gap` says that trivia stands before it.
-fn begins(gap: bool, c: CodePoint, starts: &[u32], emoji: &[u32]) -> First
-    requires { Good starts.now × Good emoji.now }
-    ensures { result ≡ first_of starts.now emoji.now gap c }
+fn begins(gap: bool, c: CodePoint, lists: &Lists) -> First
+    ensures { result ≡ first_of lists.now gap c }
 {
     if c == 0x2F {
-        return First::Holds(Mode::OneSlash { gap: gap });
+        First::Holds(Mode::OneSlash { gap })
+    } else if !classes::is_whitespace(c) {
+        First::Writes(other_mode(c, lists))
+    } else if gap {
+        First::Holds(Mode::Start { gap: true })
+    } else {
+        First::Blank(Mode::Start { gap: true })
     }
-    if classes::is_whitespace(c) {
-        if gap {
-            return First::Holds(Mode::Start { gap: true });
-        }
-        return First::Blank(Mode::Start { gap: true });
-    }
-    First::Writes(other_mode(c, starts, emoji))
 }
 
 // One newline for a run of trivia, unless it is written already.
@@ -130,9 +107,10 @@ pub fn newline_or(gap: bool) -> Before
     ensures { result ≡ newline_or gap }
 {
     if gap {
-        return Before::Nothing;
+        Before::Nothing
+    } else {
+        Before::Newline
     }
-    Before::Newline
 }
 
 // What was held back, and the answer.
@@ -147,9 +125,9 @@ fn block(doc: bool, last: Last) -> Mode
     ensures { result ≡ Block doc 0 last }
 {
     Mode::Block {
-        doc: doc,
+        doc,
         depth: 0,
-        last: last,
+        last,
     }
 }
 
@@ -157,83 +135,68 @@ fn block(doc: bool, last: Last) -> Mode
 fn one_slash(gap: bool, c: CodePoint) -> Turn
     ensures { result ≡ one_slash gap c }
 {
-    if c == 0x2F {
-        return turned(Before::Nothing, Goes::Drops(Mode::TwoSlashes { gap: gap }));
+    match c {
+        0x2F => turned(Before::Nothing, Goes::Drops(Mode::TwoSlashes { gap })),
+        0x2A => turned(Before::Nothing, Goes::Drops(Mode::SlashStar { gap })),
+        _ => turned(Before::Slash, Goes::Ends(false)),
     }
-    if c == 0x2A {
-        return turned(Before::Nothing, Goes::Drops(Mode::SlashStar { gap: gap }));
-    }
-    turned(Before::Slash, Goes::Ends(false))
 }
 
 // After // (mode TwoSlashes).
 fn two_slashes(gap: bool, c: CodePoint) -> Turn
     ensures { result ≡ two_slashes gap c }
 {
-    if c == 0x21 {
-        return turned(Before::Slashes, Goes::Takes(Mode::DocLine));
+    match c {
+        0x21 => turned(Before::Slashes, Goes::Takes(Mode::DocLine)),
+        0x2F => turned(Before::Nothing, Goes::Drops(Mode::ThreeSlashes { gap })),
+        _ => turned(newline_or(gap), comment_turns::plain_goes(c)),
     }
-    if c == 0x2F {
-        return turned(
-            Before::Nothing,
-            Goes::Drops(Mode::ThreeSlashes { gap: gap }),
-        );
-    }
-    turned(newline_or(gap), comment_turns::plain_goes(c))
 }
 
 // After /// (mode ThreeSlashes): four slashes are no doc comment.
 fn three_slashes(gap: bool, c: CodePoint) -> Turn
     ensures { result ≡ three_slashes gap c }
 {
-    if c == 0x2F {
-        return turned(newline_or(gap), Goes::Drops(Mode::PlainLine));
+    match c {
+        0x2F => turned(newline_or(gap), Goes::Drops(Mode::PlainLine)),
+        _ => turned(Before::Slashes3, comment_turns::doc_goes(c)),
     }
-    turned(Before::Slashes3, comment_turns::doc_goes(c))
 }
 
 // After /* (mode SlashStar).
 fn slash_star(gap: bool, c: CodePoint) -> Turn
     ensures { result ≡ slash_star gap c }
 {
-    if c == 0x21 {
-        return turned(Before::Star, Goes::Takes(block(true, Last::PlainChar)));
+    match c {
+        0x21 => turned(Before::Star, Goes::Takes(block(true, Last::PlainChar))),
+        0x2A => turned(Before::Nothing, Goes::Drops(Mode::SlashStars { gap })),
+        _ => turned(
+            newline_or(gap),
+            Goes::Drops(block(false, comment_turns::last_of(c))),
+        ),
     }
-    if c == 0x2A {
-        return turned(Before::Nothing, Goes::Drops(Mode::SlashStars { gap: gap }));
-    }
-    turned(
-        newline_or(gap),
-        Goes::Drops(block(false, comment_turns::last_of(c))),
-    )
 }
 
 // After /** (mode SlashStars): /*** and /**/ are no doc comments.
 fn slash_stars(gap: bool, c: CodePoint) -> Turn
     ensures { result ≡ slash_stars gap c }
 {
-    if c == 0x2A {
-        return turned(
+    match c {
+        0x2A | 0x2F => turned(
             newline_or(gap),
             Goes::Drops(comment_turns::star_block(false, 0, c)),
-        );
+        ),
+        _ => turned(
+            Before::Stars,
+            Goes::Takes(comment_turns::star_block(true, 0, c)),
+        ),
     }
-    if c == 0x2F {
-        return turned(
-            newline_or(gap),
-            Goes::Drops(comment_turns::star_block(false, 0, c)),
-        );
-    }
-    turned(
-        Before::Stars,
-        Goes::Takes(comment_turns::star_block(true, 0, c)),
-    )
 }
 
 // IN A TOKEN that is no comment and not broken: in a word, in a number, or in quotes. Modes InWord and InString are not asked for.
-fn in_token(mode: Mode, c: CodePoint, starts: &[u32], continues: &[u32], emoji: &[u32]) -> Goes
-    requires { Good starts.now × (Good continues.now × (Good emoji.now × (Among token_modes mode × Shallow mode))) }
-    ensures { Went (lent starts.now continues.now emoji.now) mode c result }
+fn in_token(mode: Mode, c: CodePoint, lists: &Lists) -> Goes
+    requires { Among token_modes mode × Shallow mode }
+    ensures { Went lists.now mode c result }
 {
     match mode {
         Mode::InBadWord
@@ -246,23 +209,23 @@ fn in_token(mode: Mode, c: CodePoint, starts: &[u32], continues: &[u32], emoji: 
         | Mode::GotB
         | Mode::GotC
         | Mode::GotBR
-        | Mode::GotHash => word_turns::in_word(mode, c, starts, continues, emoji),
+        | Mode::GotHash => word_turns::in_word(mode, c, lists),
         Mode::GotZero
         | Mode::InDigits
-        | Mode::InBased { some: _ }
-        | Mode::InHex { some: _ }
+        | Mode::InBased { .. }
+        | Mode::InHex { .. }
         | Mode::GotDot
         | Mode::InFraction
         | Mode::GotE
-        | Mode::InExponent => number_turns::in_number(mode, c, starts),
-        _ => quote_turns::in_quoted(mode, c, starts, continues),
+        | Mode::InExponent => number_turns::in_number(mode, c, lists),
+        _ => quote_turns::in_quoted(mode, c, lists),
     }
 }
 
 // ANY MODE: what a character does to the token before it. The modes in which most characters are read stand here, so that they are told by one `match`.
-fn turn_of(mode: Mode, c: CodePoint, starts: &[u32], continues: &[u32], emoji: &[u32]) -> Turn
-    requires { Good starts.now × (Good continues.now × (Good emoji.now × Shallow mode)) }
-    ensures { Turned (lent starts.now continues.now emoji.now) mode c result }
+fn turn_of(mode: Mode, c: CodePoint, lists: &Lists) -> Turn
+    requires { Shallow mode }
+    ensures { Turned lists.now mode c result }
 {
     match mode {
         Mode::Start { gap } => turned(Before::Nothing, Goes::Ends(gap)),
@@ -277,61 +240,45 @@ fn turn_of(mode: Mode, c: CodePoint, starts: &[u32], continues: &[u32], emoji: &
             Before::Nothing,
             comment_turns::block_goes(doc, depth, last, c),
         ),
-        Mode::InWord => turned(Before::Nothing, word_turns::word_goes(c, continues, emoji)),
+        Mode::InWord => turned(Before::Nothing, word_turns::word_goes(c, lists)),
         Mode::InString => turned(Before::Nothing, quote_turns::string_goes(c)),
         Mode::Broken => turned(Before::Nothing, Goes::Drops(Mode::Broken)),
-        _ => turned(Before::Nothing, in_token(mode, c, starts, continues, emoji)),
+        _ => turned(Before::Nothing, in_token(mode, c, lists)),
     }
 }
 
 // A character with which a token begins, after what was held back.
-fn step_first(before: Before, gap: bool, c: CodePoint, starts: &[u32], emoji: &[u32]) -> Stepped
-    requires { Good starts.now × Good emoji.now }
-    ensures { Begins starts.now emoji.now before gap c result }
+fn step_first(before: Before, gap: bool, c: CodePoint, lists: &Lists) -> Stepped
+    ensures { Begins lists.now.starts lists.now.emoji before gap c result }
 {
-    match begins(gap, c, starts, emoji) {
-        First::Writes(m) => Stepped {
-            before,
-            shown: Shown::Itself,
-            mode: m,
-            begins: true,
-        },
-        First::Holds(m) => Stepped {
-            before,
-            shown: Shown::None,
-            mode: m,
-            begins: true,
-        },
-        First::Blank(m) => Stepped {
-            before,
-            shown: Shown::Line,
-            mode: m,
-            begins: true,
-        },
+    let (shown, mode) = match begins(gap, c, lists) {
+        First::Writes(mode) => (Shown::Itself, mode),
+        First::Holds(mode) => (Shown::None, mode),
+        First::Blank(mode) => (Shown::Line, mode),
+    };
+    Stepped {
+        before,
+        shown,
+        mode,
+        begins: true,
     }
 }
 
 // ONE CHARACTER, in any mode.
-pub fn step(mode: Mode, c: CodePoint, starts: &[u32], continues: &[u32], emoji: &[u32]) -> Stepped
-    requires { Stepping mode starts.now continues.now emoji.now }
-    ensures { Does (lent starts.now continues.now emoji.now) mode c result }
+pub fn step(mode: Mode, c: CodePoint, lists: &Lists) -> Stepped
+    requires { Shallow mode }
+    ensures { Does lists.now mode c result }
 {
-    let turn = turn_of(mode, c, starts, continues, emoji);
-    let before = turn.before;
-    let goes = turn.goes;
-    match goes {
-        Goes::Takes(m) => Stepped {
-            before,
-            shown: Shown::Itself,
-            mode: m,
-            begins: false,
-        },
-        Goes::Drops(m) => Stepped {
-            before,
-            shown: Shown::None,
-            mode: m,
-            begins: false,
-        },
-        Goes::Ends(gap) => step_first(before, gap, c, starts, emoji),
+    let Turn { before, goes } = turn_of(mode, c, lists);
+    let (shown, mode) = match goes {
+        Goes::Takes(mode) => (Shown::Itself, mode),
+        Goes::Drops(mode) => (Shown::None, mode),
+        Goes::Ends(gap) => return step_first(before, gap, c, lists),
+    };
+    Stepped {
+        before,
+        shown,
+        mode,
+        begins: false,
     }
 }

@@ -1,10 +1,6 @@
--- `turns::in_token` meets its contract. A word, a number, or what is left (Modes).
-use Rattle.turns.proofs.Modes.{token_number, token_quoted, quoted_left}
-use borrow.Author.Rules.{rules}
+-- `turns::in_token` meets its contract. In a number and in quotes, with the lists lent (Modes).
+use Rattle.turns.proofs.Modes.{token_number, token_quoted}
 use Rattle.turns.proofs.in_token.Goals as goal
-
-pub in_quoted-requires : goal.in_quoted-requires
-in_quoted-requires c = search (rules, quoted_left)
 
 pub returns-in-GotZero : goal.returns-in-GotZero
 returns-in-GotZero c = search token_number
