@@ -8,8 +8,7 @@ use Rattle.eaters.specs.Eat.{while}
 use Rattle.eaters.proofs.Fits.{fits_while}
 use Rattle.token.specs.Names.{is, '#'}
 use Rattle.cursor.specs.declared.Cursor.{Cursor}
-use Rattle.cursor.specs.declared.Step.{Step}
-use Rattle.cursor.specs.declared.Step.TheVariants.{Got}
+use Rattle.std.specs.Prelude.{Option, Some}
 use Rattle.cursor.specs.Cursors.{rest, Seen}
 use Rattle.cursor.proofs.Steps.{rest_short}
 use Rattle.cursor.proofs.Bytes.{char_within}
@@ -22,5 +21,5 @@ unfolding while
 count_fits {s} {a} g l = omega (arith, g.count, (fits_while (is '#')).fits (rest s a) zero-le, rest_short s a)
 
 -- the place past a character
-pub place_fits : {s : List ℕ} {a d : Cursor} {r : Step} {c p : ℕ} → r ≡ Got c d → Seen s a r → p ≡ d.at → length s ≤ 4294967295 → p ≤ 4294967295
+pub place_fits : {s : List ℕ} {a d : Cursor} {r : Option (ℕ × Cursor)} {c p : ℕ} → r ≡ Some (c, d) → Seen s a r → p ≡ d.at → length s ≤ 4294967295 → p ≤ 4294967295
 place_fits e h q l = omega (arith, char_within e h)

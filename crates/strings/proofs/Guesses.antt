@@ -10,12 +10,10 @@ use borrow.Author.Tests.{ne_eqb, eqb-true, lt-ltb, le-ltb}
 use Rattle.basics.specs.Choice.{pick}
 use Rattle.text.specs.Chars.{width, size}
 use Rattle.eaters.specs.Eat.{take_while, while}
-use Rattle.token.specs.declared.Offset.TheVariants as offset
 use Rattle.token.specs.Names.{is, '#'}
 use Rattle.token.specs.RawCheck.{hashes, Guess, guess}
 use Rattle.cursor.specs.declared.Cursor.{Cursor}
-use Rattle.cursor.specs.declared.Step.{Step}
-use Rattle.cursor.specs.declared.Step.TheVariants.{Got, Over}
+use Rattle.std.specs.Prelude.{Option, None, Some}
 use Rattle.cursor.specs.Cursors.{rest, Seen}
 use Rattle.cursor.specs.Moved.{left_of, no_more}
 use Rattle.cursor.specs.Ran.{left}
@@ -28,7 +26,7 @@ use Rattle.strings.specs.Guesses.{guess_of, unguessed}
 
 -- a quote with n hashes after it, and p the offset past the quote
 abbrev quote : (n p : ℕ) → Guess
-quote n p = record { most = n; offset = offset.At p }
+quote n p = record { most = n; offset = Some p }
 
 -- one step of the definition
 guess_over : (p : ℕ) (g : Guess) → guess p g [] ≡ g
@@ -65,14 +63,14 @@ over_hashes p g (c ∷ cs) = go (eqb c 0x23) refl (over_hashes (p + width c) g c
 pub record Guessing (s : List ℕ) (a b : Cursor) (g : Guessed) : Type 0 where
   pub same : guess b.at (guess_of g) (rest s b) ≡ guess a.at unguessed (rest s a)
 
-pub guessing_start : (s : List ℕ) (a : Cursor) → Guessing s a a (record { most = 0; offset = offset.Nowhere })
+pub guessing_start : (s : List ℕ) (a : Cursor) → Guessing s a a (record { most = 0; offset = None })
 guessing_start s a = record { same = refl }
 
-module _ {s : List ℕ} {a b : Cursor} {g : Guessed} {r : Step} (i : Guessing s a b g) (h : Seen s b r) where
-  pub guessing_over : r ≡ Over → guess_of g ≡ guess a.at unguessed (rest s a)
+module _ {s : List ℕ} {a b : Cursor} {g : Guessed} {r : Option (ℕ × Cursor)} (i : Guessing s a b g) (h : Seen s b r) where
+  pub guessing_over : r ≡ None → guess_of g ≡ guess a.at unguessed (rest s a)
   guessing_over e = sym (guess_over b.at (guess_of g)) ∙ ap (guess b.at (guess_of g)) (sym (end_at e h)) ∙ i.same
 
-  module _ {c : ℕ} {d : Cursor} (e : r ≡ Got c d) where
+  module _ {c : ℕ} {d : Cursor} (e : r ≡ Some (c, d)) where
     -- one character more
     on_by : (w : Guess) → guess b.at (guess_of g) (c ∷ rest s d) ≡ guess (b.at + width c) w (rest s d) → guess d.at w (rest s d) ≡ guess a.at unguessed (rest s a)
     on_by w q =
@@ -94,7 +92,7 @@ module _ {s : List ℕ} {a b : Cursor} {g : Guessed} {r : Step} (i : Guessing s 
         guessing_fewer l =
             record { same = past (guess_of g) ∙ on_by (guess_of g) (guess_fewer b.at (guess_of g) c (rest s d) q (omega (arith, m.count))) }
 
-        pub guessing_more : {p o : ℕ} → p ≡ d.at → o ≡ p → g.most < n → Guessing s a k.next (record { most = n; offset = offset.At o })
+        pub guessing_more : {p o : ℕ} → p ≡ d.at → o ≡ p → g.most < n → Guessing s a k.next (record { most = n; offset = Some o })
         unfolding width
         guessing_more {p} {o} u v l =
             let w : width c ≡ 1 = ap width q in

@@ -3,5 +3,4 @@ mod Guesses
 mod Checks
 mod Strings
 mod Calls
-mod Numbering
 pub mod Answers

@@ -1,5 +1,5 @@
 -- The guess of the code where a raw string may have been meant to end, in the words of the book. Offsets count from the start of the text.
-use Rattle.token.specs.declared.Offset.TheVariants.{Nowhere}
+use Rattle.std.specs.Prelude.{None}
 use Rattle.token.specs.RawCheck.{Guess}
 use Rattle.strings.specs.declared.Guessed.{Guessed}
 
@@ -8,4 +8,4 @@ guess_of g = record { most = g.most; offset = g.offset }
 
 -- no quote with a hash after it was seen
 abbrev pub unguessed : Guess
-unguessed = record { most = 0; offset = Nowhere }
+unguessed = record { most = 0; offset = None }

@@ -3,8 +3,8 @@ use Rattle.strings.proofs.Bounds.{count_fits}
 use Rattle.strings.proofs.Strings.{no_string, after, bytes_fit, a_string}
 use Rattle.strings.proofs.guarded_at.Goals as goal
 
-pub returns-then-c-ne34 : goal.returns-then-c-ne34
-returns-then-c-ne34 c = search no_string
+pub returns-then-first-ne34 : goal.returns-then-first-ne34
+returns-then-first-ne34 c = search no_string
 
 pub narrow-requires : goal.narrow-requires
 narrow-requires c = search count_fits

@@ -6,8 +6,8 @@ use Rattle.strings.proofs.raw_guess.Goals as goal
 pub loop-c-init : goal.loop-c-init
 loop-c-init c = guessing_start _ _
 
-pub returns-in_default : goal.returns-in_default
-returns-in_default c = search guessing_over
+pub returns : goal.returns
+returns c = search guessing_over
 
 pub narrow-count-requires : goal.narrow-count-requires
 narrow-count-requires c = search count_fits
