@@ -6,8 +6,7 @@ use Rattle.refusal.specs.declared.Numbers.{Numbers}
 use Rattle.token.specs.Lists.{Lists}
 use Rattle.lists_file.specs.declared.Version.{Version}
 use Rattle.lists_file.specs.File.{file_of}
-use Rattle.lists_out.specs.declared.WriteAnswer.{WriteAnswer}
-use Rattle.lists_out.specs.Answers.{buffer_after, Writing}
+use Rattle.lists_out.specs.Answers.{WriteAnswer, buffer_after, Writing}
 use Rattle.lists_out.proofs.write_numbers.Reads as write_numbers
 
 module _ {limit : ℕ} {v : Version} {L : Lists} {before after later : List ℕ} {r q : WriteAnswer} (f : Writing limit v L before after r) (g : Writing limit v L before later q) where

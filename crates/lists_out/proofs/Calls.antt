@@ -7,9 +7,8 @@ use borrow.Author.Tests.{le-leb, lt-leb}
 use lib.ListN.{length, drop}
 use native.Mathlib.Omega.{arith}
 use Rattle.basics.specs.Choice.{pick}
-use Rattle.refusal.specs.declared.Bad.{Bad}
-use Rattle.refusal.specs.declared.Verdict.{Verdict}
-use Rattle.refusal.specs.declared.Verdict.TheVariants as verdict
+use Rattle.std.specs.Prelude.{Ok, Err}
+use Rattle.refusal.specs.Verdict.{Verdict, fine}
 use Rattle.refusal.specs.Order.{lists_in_order}
 use Rattle.refusal.proofs.Handing as handing
 use Rattle.ranges.specs.Rules.{list_verdict}
@@ -20,19 +19,14 @@ use Rattle.puts.specs.Put.{laid, Put}
 use Rattle.lists_file.specs.declared.Version.{Version}
 use Rattle.lists_file.specs.File.{file_of}
 use Rattle.lists_file.specs.Verdicts.{lists_verdict}
-use Rattle.lists_out.specs.declared.WriteAnswer.{WriteAnswer}
-use Rattle.lists_out.specs.declared.WriteAnswer.TheVariants.{Written, Room, Refused}
+use Rattle.lists_out.specs.declared.WriteRefusal.TheVariants.{Room}
 use Rattle.lists_out.specs.Parts.{file_bytes, Short, AllShort}
-use Rattle.lists_out.specs.Answers.{roomed, Writing, write_numbers}
+use Rattle.lists_out.specs.Answers.{shared, roomed, Writing}
 use Rattle.lists_out.proofs.Lines.{file_long}
 use Rattle.lists_out.proofs.Fits.{AllFine, all_fine}
 
--- BY NUMBER, at a case
-pub numbers_at : {x y : WriteAnswer} → x ≡ y → write_numbers y ≡ write_numbers x
-numbers_at e = sym (ap write_numbers e)
-
 -- a list that is let through is short
-short : (which : ℕ) (l : List ℕ) → list_verdict limit which l ≡ verdict.Fine → Short l
+short : (which : ℕ) (l : List ℕ) → list_verdict limit which l ≡ fine → Short l
 short which l e = omega (arith, fine_count limit which l e)
 
 -- bytes put at the beginning
@@ -47,10 +41,7 @@ module _ (v : Version) (s t u before : List ℕ) {a b c w : Verdict} (x : a ≡ 
   checked : w ≡ lists_verdict limit (lent s t u)
   checked = cc
 
-  pub refused_in : {bad : Bad} → w ≡ verdict.Refused bad → Writing limit v (lent s t u) before before (Refused bad)
-  refused_in k = record { answer = handing.refused_in Refused checked (roomed (length (file_of v (lent s t u))) (length before)) k; holds = refl }
-
-  module _ (k : w ≡ verdict.Fine) where
+  module _ (k : w ≡ fine) where
     pub all_short : AllShort (lent s t u)
     all_short =
         let f : AllFine limit (lent s t u) = all_fine limit (lent s t u) (sym checked ∙ k) in
@@ -60,16 +51,16 @@ module _ (v : Version) (s t u before : List ℕ) {a b c w : Verdict} (x : a ≡ 
       e : n ≡ length (file_of v (lent s t u))
       e = d ∙ sym (file_long v (lent s t u))
 
-      pub room_in : length before < n → Writing limit v (lent s t u) before before (Room n)
+      pub room_in : length before < n → Writing limit v (lent s t u) before before (Err (Room n))
       room_in l = record {
-        answer = handing.fine_in Refused checked k (sym (ap (λ (q : Bool). pick q (Written n) (Room n)) (lt-leb n (length before) l)) ∙ ap (λ (m : ℕ). roomed m (length before)) e);
+        answer = handing.fine_in shared checked k (sym (ap (λ (q : Bool). pick q (Ok n) (Err (Room n))) (lt-leb n (length before) l)) ∙ ap (λ (m : ℕ). roomed m (length before)) e);
         holds = refl;
       }
 
-      pub written_in : {after : List ℕ} {r : ℕ} → n ≤ length before → Put (file_of v (lent s t u)) before 0 after r → Writing limit v (lent s t u) before after (Written r)
+      pub written_in : {after : List ℕ} {r : ℕ} → n ≤ length before → Put (file_of v (lent s t u)) before 0 after r → Writing limit v (lent s t u) before after (Ok r)
       written_in {after} {r} l p =
           let f : r ≡ n = omega (arith, e, p.next) in
           record {
-            answer = handing.fine_in Refused checked k (ap Written f ∙ sym (ap (λ (q : Bool). pick q (Written n) (Room n)) (le-leb n (length before) l)) ∙ ap (λ (m : ℕ). roomed m (length before)) e);
+            answer = handing.fine_in shared checked k (ap Ok f ∙ sym (ap (λ (q : Bool). pick q (Ok n) (Err (Room n))) (le-leb n (length before) l)) ∙ ap (λ (m : ℕ). roomed m (length before)) e);
             holds = put_front p;
           }

@@ -3,22 +3,21 @@ use Prim.Native.Nat.{ℕ, suc}
 use mathlib.Core.Path.{◌≡◌}
 use mathlib.Core.List.{List, [], ◌∷◌}
 use native.Mathlib.Omega.{arith}
-use Rattle.refusal.specs.declared.Verdict.{Verdict}
-use Rattle.refusal.specs.declared.Verdict.TheVariants.{Fine}
+use Rattle.std.specs.Prelude.{None}
+use Rattle.refusal.specs.Verdict.{Verdict, fine}
 use Rattle.refusal.specs.Order.{first}
 use Rattle.refusal.proofs.Orders.{first_1, first_2}
 use Rattle.ranges.specs.Rules.{good_pair, flaw_from, list_verdict}
-use Rattle.ranges.specs.declared.Flaw.TheVariants.{Nowhere}
 use Rattle.ranges.proofs.Pairs.{pair_true}
 use Rattle.ranges.proofs.Laws.{right, fine_good}
 use Rattle.token.specs.Lists.{Lists}
 use Rattle.lists_file.specs.File.{Pairs, no_pair, pair, ListsFit}
 use Rattle.lists_file.specs.Verdicts.{lists_verdict}
 
-pairs_from : (k p : ℕ) (l : List ℕ) → flaw_from k p l ≡ Nowhere → Pairs l
+pairs_from : (k p : ℕ) (l : List ℕ) → flaw_from k p l ≡ None → Pairs l
 unfolding flaw_from
 pairs_from k p [] e = no_pair
-pairs_from k p (low ∷ []) e = let z : ◌≡◌ {A = ℕ} 0 1 = cc in absurd (omega arith)
+pairs_from k p (low ∷ []) e = absurd (cc)
 pairs_from k p (low ∷ high ∷ l) e =
     let b = right (good_pair p low high) (flaw_from (suc k) high l) k e in
     let f = pair_true p low high b.0 in
@@ -26,19 +25,19 @@ pairs_from k p (low ∷ high ∷ l) e =
 
 -- each list is let through
 pub record AllFine (limit : ℕ) (L : Lists) : Type 0 where
-  pub starts : list_verdict limit 0 L.starts ≡ Fine
-  pub continues : list_verdict limit 1 L.continues ≡ Fine
-  pub emoji : list_verdict limit 2 L.emoji ≡ Fine
+  pub starts : list_verdict limit 0 L.starts ≡ fine
+  pub continues : list_verdict limit 1 L.continues ≡ fine
+  pub emoji : list_verdict limit 2 L.emoji ≡ fine
 
-pub all_fine : (limit : ℕ) (L : Lists) → lists_verdict limit L ≡ Fine → AllFine limit L
+pub all_fine : (limit : ℕ) (L : Lists) → lists_verdict limit L ≡ fine → AllFine limit L
 all_fine limit L e =
     let a : Verdict = list_verdict limit 0 L.starts in
     let b : Verdict = list_verdict limit 1 L.continues in
     let c : Verdict = list_verdict limit 2 L.emoji in
-    let m : first b c ≡ Fine = first_2 a (first b c) e in
+    let m : first b c ≡ fine = first_2 a (first b c) e in
     record { starts = first_1 a (first b c) e; continues = first_1 b c m; emoji = first_2 b c m }
 
-pub fine_fits : (limit : ℕ) (L : Lists) → lists_verdict limit L ≡ Fine → ListsFit L
+pub fine_fits : (limit : ℕ) (L : Lists) → lists_verdict limit L ≡ fine → ListsFit L
 fine_fits limit L e =
     let f : AllFine limit L = all_fine limit L e in
     record {

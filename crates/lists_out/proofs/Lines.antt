@@ -1,6 +1,6 @@
 -- The lines of a file: how long they are, and that their parts put one after the other are they.
 use Prim.Native.Nat.{ℕ, zero, suc, ◌+◌, ◌≤◌, ◌<◌}
-use mathlib.Core.Path.{◌≡◌, refl, ap}
+use mathlib.Core.Path.{◌≡◌}
 use mathlib.Core.List.{List, [], ◌∷◌, ◌++◌}
 use lib.ListN.{length, length-append}
 use native.Mathlib.Omega.{arith}
@@ -10,7 +10,7 @@ use Rattle.fields.proofs.Puts.{ten, sixteen, few_digits}
 use Rattle.puts.specs.Put.{Put}
 use Rattle.puts.proofs.Puts.{put_then}
 use Rattle.lists_file.specs.declared.Version.{Version}
-use Rattle.lists_file.specs.Names.{tab, newline, unicode_word, start_word, continue_word, emoji_word, name_of}
+use Rattle.lists_file.specs.Names.{tab, newline, unicode_word, name_of}
 use Rattle.lists_file.specs.File.{line, first_text, record_text, group_lines, file_of}
 use Rattle.lists_out.specs.Parts.{record_bytes, first_bytes, file_bytes}
 
@@ -52,38 +52,12 @@ file_long v L =
 pub first_room : (v : Version) (L : Lists) (out : List ℕ) → file_bytes v L ≤ length out → 0 + first_bytes v ≤ length out
 first_room v L out h = omega (arith, first_long v)
 
--- A NAME, by the tests
-other_name : (which : ℕ) → (which ≡ 0 → ⊥) → (which ≡ 1 → ⊥) → name_of which ≡ emoji_word
-other_name zero f g = absurd (f refl)
-other_name (suc zero) f g = absurd (g refl)
-other_name (suc (suc n)) f g = refl
-
-module _ (which : ℕ) (o : List ℕ) (at : ℕ) (h : at + length (name_of which) ≤ length o) where
-  pub start_room : which ≡ 0 → at + 5 ≤ length o
-  start_room e = omega (arith, h, ap (λ (w : ℕ). length (name_of w)) e)
-
-  pub continue_room : which ≡ 1 → at + 8 ≤ length o
-  continue_room e = omega (arith, h, ap (λ (w : ℕ). length (name_of w)) e)
-
-  pub emoji_room : (which ≡ 0 → ⊥) → (which ≡ 1 → ⊥) → at + 5 ≤ length o
-  emoji_room f g = omega (arith, h, ap length (other_name which f g))
-
-module _ (which : ℕ) {o p : List ℕ} {at r : ℕ} where
-  pub start_put : which ≡ 0 → Put start_word o at p r → Put (name_of which) o at p r
-  start_put e u = rw e u
-
-  pub continue_put : which ≡ 1 → Put continue_word o at p r → Put (name_of which) o at p r
-  continue_put e u = rw e u
-
-  pub emoji_put : (which ≡ 0 → ⊥) → (which ≡ 1 → ⊥) → Put emoji_word o at p r → Put (name_of which) o at p r
-  emoji_put f g u = rw (other_name which f g) u
-
 -- A LINE, part by part
-pub record_put : (which low high : ℕ) {o a b c d e z : List ℕ} {at i j k l m r : ℕ}
-    → Put (name_of which) o at a i → Put (tab ∷ []) a i b j → Put (numeral 16 low) b j c k → Put (tab ∷ []) c k d l → Put (numeral 16 high) d l e m → Put (newline ∷ []) e m z r
+pub record_put : (which low high : ℕ) {name o a b c d e z : List ℕ} {at i j k l m r : ℕ}
+    → name ≡ name_of which → Put name o at a i → Put (tab ∷ []) a i b j → Put (numeral 16 low) b j c k → Put (tab ∷ []) c k d l → Put (numeral 16 high) d l e m → Put (newline ∷ []) e m z r
     → Put (line (record_text which low high)) o at z r
 unfolding record_text
-record_put which low high p q s t u w = put_then (put_then p (put_then q (put_then s (put_then t u)))) w
+record_put which low high n p q s t u w = rw (← n) (put_then (put_then p (put_then q (put_then s (put_then t u)))) w)
 
 pub number_put : (n : ℕ) {o a z : List ℕ} {at i r : ℕ} → Put (tab ∷ []) o at a i → Put (numeral 10 n) a i z r → Put (tab ∷ numeral 10 n) o at z r
 number_put n p q = put_then p q

@@ -9,51 +9,48 @@ ghost use Rattle.fields.specs.Numerals.{numeral};
 ghost use Rattle.lists_file.specs.Names.{tab, name_of};
 ghost use Rattle.lists_file.specs.File.{line, first_text, record_text, group_lines, file_of};
 ghost use Rattle.lists_out.specs.Parts.{record_bytes, first_bytes, file_bytes, Short, AllShort, Counted};
+ghost use Rattle.lists_out.specs.declared.WriteRefusal.TheVariants.{Shared};
 ghost use Rattle.lists_out.specs.Answers.{write_numbers, Writing};
 
 use lists_file::Version;
 use ranges::MAX_PAIRS;
-use refusal::{Bad, Numbers, Verdict};
+use refusal::{Bad, Numbers};
 
-// What the writer says: done, with the file's bytes; fewer bytes than the file has (7), with the bytes that it has; or a list that breaks a rule (3).
+// Why nothing is written: fewer bytes than the file has (7), with the bytes that it has; or a refusal that calls share: a list that breaks a rule (3).
 #[derive(Clone, Copy)]
-pub enum WriteAnswer {
-    Written(usize),
+pub enum WriteRefusal {
     Room(usize),
-    Refused(Bad),
+    Shared(Bad),
+}
+
+impl From<Bad> for WriteRefusal {
+    ghost from_gives = { λ bad refusal. refusal ≡ Shared bad };
+
+    fn from(bad: Bad) -> WriteRefusal {
+        WriteRefusal::Shared(bad)
+    }
 }
 
 // The answer by number.
-pub fn write_numbers(answer: WriteAnswer) -> Numbers
+pub fn write_numbers(answer: Result<usize, WriteRefusal>) -> Numbers
     ensures { result ≡ write_numbers answer }
 {
     match answer {
-        WriteAnswer::Written(n) => Numbers {
-            number: 0,
-            beside: n,
-            second: 0,
-        },
-        WriteAnswer::Room(n) => Numbers {
-            number: 7,
-            beside: n,
-            second: 0,
-        },
-        WriteAnswer::Refused(bad) => refusal::bad_numbers(bad),
+        Ok(bytes) => refusal::done(bytes, 0),
+        Err(WriteRefusal::Room(bytes)) => refusal::refused(7, bytes),
+        Err(WriteRefusal::Shared(bad)) => refusal::bad_numbers(bad),
     }
 }
 
-// Puts the name of a list.
-fn put_name(out: &mut [u8], at: usize, which: usize) -> usize
-    requires { at + length (name_of which) ≤ length out.old }
-    ensures { Put (name_of which) out.old at out.new result }
+// The name of a list.
+fn name_of(which: usize) -> &'static [u8]
+    ensures { result.now ≡ name_of which }
 {
-    if which == 0 {
-        return puts::put_bytes(out, at, b"start");
+    match which {
+        0 => b"start",
+        1 => b"continue",
+        _ => b"emoji",
     }
-    if which == 1 {
-        return puts::put_bytes(out, at, b"continue");
-    }
-    puts::put_bytes(out, at, b"emoji")
 }
 
 // Puts the line of a record. Each local is the place of what is put next.
@@ -61,12 +58,12 @@ fn put_record(out: &mut [u8], at: usize, which: usize, low: u32, high: u32) -> u
     requires { at + record_bytes which low high ≤ length out.old }
     ensures { Put (line (record_text which low high)) out.old at out.new result }
 {
-    let gap = put_name(out, at, which);
-    let first = puts::put_byte(out, gap, 9);
+    let gap = puts::put_bytes(out, at, name_of(which));
+    let first = puts::put_byte(out, gap, b'\t');
     let between = fields::put_hex(out, first, low);
-    let second = puts::put_byte(out, between, 9);
+    let second = puts::put_byte(out, between, b'\t');
     let end = fields::put_hex(out, second, high);
-    puts::put_byte(out, end, 10)
+    puts::put_byte(out, end, b'\n')
 }
 
 // Puts a tab and a number in decimal.
@@ -74,7 +71,7 @@ fn put_number(out: &mut [u8], at: usize, n: u16) -> usize
     requires { at + length (numeral 10 n) + 1 ≤ length out.old }
     ensures { Put (tab ∷ numeral 10 n) out.old at out.new result }
 {
-    let digits = puts::put_byte(out, at, 9);
+    let digits = puts::put_byte(out, at, b'\t');
     fields::put_decimal(out, digits, n as u32)
 }
 
@@ -87,7 +84,7 @@ fn put_first(out: &mut [u8], at: usize, version: Version) -> usize
     let minor = put_number(out, major, version.major);
     let update = put_number(out, minor, version.minor);
     let end = put_number(out, update, version.update);
-    puts::put_byte(out, end, 10)
+    puts::put_byte(out, end, b'\n')
 }
 
 // The bytes of the line of a record. A line has at most 32.
@@ -111,14 +108,11 @@ fn group_bytes(which: usize, list: &[u32]) -> usize
     requires { Short list.now }
     ensures { Counted (group_lines which list.now) (length list.now) result }
 {
-    let whole = list.len() / 2;
-    let mut n: usize = 0;
-    let mut k = 0;
-    while k < whole {
-        let low = list[k * 2];
-        let high = list[k * 2 + 1];
-        n += record_bytes(which, low, high);
-        k += 1;
+    let mut n = 0;
+    let mut rest = list;
+    while let [low, high, more @ ..] = rest {
+        n += record_bytes(which, *low, *high);
+        rest = more;
     }
     n
 }
@@ -139,14 +133,11 @@ fn put_group(out: &mut [u8], at: usize, which: usize, list: &[u32]) -> usize
     requires { at + length (group_lines which list.now) ≤ length out.old }
     ensures { Put (group_lines which list.now) out.old at out.new result }
 {
-    let whole = list.len() / 2;
     let mut n = at;
-    let mut k = 0;
-    while k < whole {
-        let low = list[k * 2];
-        let high = list[k * 2 + 1];
-        n = put_record(out, n, which, low, high);
-        k += 1;
+    let mut rest = list;
+    while let [low, high, more @ ..] = rest {
+        n = put_record(out, n, which, *low, *high);
+        rest = more;
     }
     n
 }
@@ -175,18 +166,16 @@ pub fn write_lists(
     continues: &[u32],
     emoji: &[u32],
     out: &mut [u8],
-) -> WriteAnswer
+) -> Result<usize, WriteRefusal>
     ensures { Writing MAX_PAIRS version (lent starts.now continues.now emoji.now) out.old out.new result }
 {
     let start = ranges::check_list(0, starts);
     let goes_on = ranges::check_list(1, continues);
     let last = ranges::check_list(2, emoji);
-    if let Verdict::Refused(bad) = refusal::lists_in_order(start, goes_on, last) {
-        return WriteAnswer::Refused(bad);
-    }
+    refusal::lists_in_order(start, goes_on, last)?;
     let bytes = file_bytes(version, starts, continues, emoji);
     if out.len() < bytes {
-        return WriteAnswer::Room(bytes);
+        return Err(WriteRefusal::Room(bytes));
     }
-    WriteAnswer::Written(put_file(version, starts, continues, emoji, out))
+    Ok(put_file(version, starts, continues, emoji, out))
 }

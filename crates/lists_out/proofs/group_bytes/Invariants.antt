@@ -1,10 +1,10 @@
--- `lists_out::group_bytes` meets its contract. `Counting`: the bytes counted, and those from the pair on, are all of them (Groups).
-use Prim.Native.Nat.{◌-◌}
+-- `lists_out::group_bytes` meets its contract. `Counting`: the bytes counted, and those of the pairs left, are all of them (Groups).
+use lib.ListN.{length}
 use Rattle.lists_out.proofs.Groups.{Counting}
 use Rattle.lists_out.proofs.group_bytes.Given as goal
 
-abbrev pub invariant-loop-k : goal.invariant-loop-k
-invariant-loop-k l = Counting l.which l.list l.n l.k
+abbrev pub invariant-loop-rest : goal.invariant-loop-rest
+invariant-loop-rest l = Counting l.which l.list l.rest l.n
 
-abbrev pub decreases-loop-k : goal.decreases-loop-k
-decreases-loop-k l = l.whole - l.k
+abbrev pub decreases-loop-rest : goal.decreases-loop-rest
+decreases-loop-rest l = length l.rest
