@@ -1,14 +1,14 @@
 -- What the verdict and the position say of the text, the lists and the answer.
+use Rattle.std.specs.Prelude.{Ok, Err}
 use Prim.Native.Nat.{ℕ, ◌≤◌}
 use mathlib.Core.Path.{◌≡◌, sym, ap, ◌∙◌}
 use mathlib.Core.Bool.{Bool, true, false}
 use mathlib.Core.List.{List}
 use lib.ListN.{length, drop}
 use native.Mathlib.Omega.{arith}
-use Rattle.refusal.specs.declared.Bad.{Bad}
-use Rattle.refusal.specs.declared.Verdict.{Verdict}
-use Rattle.refusal.specs.declared.Verdict.TheVariants as verdict
-use Rattle.refusal.specs.Order.{first, lists_in_order, refused_or}
+use Rattle.refusal.specs.declared.PlaceRefusal.TheVariants.{Position}
+use Rattle.refusal.specs.Verdict.{Verdict, fine}
+use Rattle.refusal.specs.Order.{first, lists_in_order}
 use Rattle.refusal.proofs.Orders.{first_1, first_2}
 use Rattle.text.specs.Chars.{chars, size, WellFormed}
 use Rattle.text.specs.Position.{on_boundary, starts_here}
@@ -21,13 +21,11 @@ use Rattle.ranges.proofs.Laws.{fine_good}
 use Rattle.token.specs.Lists.{Lists}
 use Rattle.token.proofs.Cover.{size_append}
 use Rattle.lexer.specs.declared.Scan.{Scan}
-use Rattle.lexer.specs.declared.OneToken.{OneToken}
-use Rattle.lexer.specs.declared.OneToken.TheVariants.{Given, Position, Refused}
 use Rattle.lexer.specs.Checked.{Checked}
 use Rattle.lexer.specs.Steps.{before_of, next_of}
-use Rattle.lexer.specs.Ready.{Ready}
+use Rattle.lexer.specs.Ready.{Lined}
 use Rattle.lexer.specs.Answers.{token_verdict, given_at, one_token}
-use Rattle.lexer.proofs.Walks.{before_ready}
+use Rattle.lexer.proofs.Walks.{before_lined}
 
 -- a boundary lies in the text
 pub edge_within : (s : List ℕ) (at : ℕ) → on_boundary s at ≡ true → at ≤ length s
@@ -36,8 +34,8 @@ edge_within s at b =
     omega (arith, q.bytes, sym (ap size q.joined), size_append q.before (chars (drop at s)), size_chars s)
 
 -- THE VERDICT lets through: the text is within the limit and well-formed, and the lists are good
-module _ (limit : ℕ) (s : List ℕ) (L : Lists) {v : Verdict} (e : v ≡ token_verdict limit s L) (k : v ≡ verdict.Fine) where
-  lists_fine : first (list_verdict limit 0 L.starts) (first (list_verdict limit 1 L.continues) (list_verdict limit 2 L.emoji)) ≡ verdict.Fine
+module _ (limit : ℕ) (s : List ℕ) (L : Lists) {v : Verdict} (e : v ≡ token_verdict limit s L) (k : v ≡ fine) where
+  lists_fine : first (list_verdict limit 0 L.starts) (first (list_verdict limit 1 L.continues) (list_verdict limit 2 L.emoji)) ≡ fine
   unfolding token_verdict
   lists_fine = first_1 _ (utf8_verdict s) (first_2 (too_long s) _ (sym e ∙ k))
 
@@ -63,20 +61,17 @@ module _ (limit : ℕ) (s : List ℕ) (L : Lists) {v : Verdict} (e : v ≡ token
     boundary : t ≡ on_boundary s at
     boundary = h ∙ sym (boundary_byte s text_well at)
 
-    -- the position is in the text, and a step from there is ready
+    -- the position is in the text, and a step from there is lined
     pub at_within : t ≡ true → at ≤ length s
     at_within p = edge_within s at (sym boundary ∙ p)
 
-    pub at_ready : {c : Scan} → t ≡ true → c ≡ before_of s at on → Ready s L c
-    at_ready p f = before_ready {on = on} fine_checked (at_within p) f
+    pub at_lined : {c : Scan} → t ≡ true → c ≡ before_of s at on → Lined s c
+    at_lined p f = before_lined {on = on} text_fits (at_within p) f
 
-    pub given_in : {c x : Scan} → t ≡ true → c ≡ before_of s at on → x ≡ next_of L s c → Given x ≡ one_token limit s L at on
+    pub given_in : {c x : Scan} → t ≡ true → c ≡ before_of s at on → x ≡ next_of L s c → Ok x ≡ one_token limit s L at on
     unfolding given_at
     given_in p f q = rw (← e, k, ← boundary, p, q, f)
 
-    pub position_in : t ≡ false → Position at ≡ one_token limit s L at on
+    pub position_in : t ≡ false → Err (Position at) ≡ one_token limit s L at on
     unfolding given_at
     position_in p = rw (← e, k, ← boundary, p)
-
-pub refused_in : {v w : Verdict} (x : OneToken) {bad : Bad} → v ≡ w → v ≡ verdict.Refused bad → Refused bad ≡ refused_or Refused w x
-refused_in x e k = rw (← e, k)

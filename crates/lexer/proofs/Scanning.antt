@@ -1,4 +1,5 @@
 -- The token at a position, in the facts of the code.
+use Rattle.std.specs.Prelude.{Option, None, Some}
 use Prim.Native.Nat.{ℕ, ◌+◌, ◌-◌, ◌≤◌}
 use mathlib.Core.Path.{◌≡◌, sym, ap, subst, ◌∙◌}
 use mathlib.Core.Bool.{Bool}
@@ -19,8 +20,6 @@ use Rattle.token.proofs.Takes.{fits_token}
 use Rattle.cursor.specs.declared.Cursor.{Cursor}
 use Rattle.cursor.specs.declared.Kinded.{Kinded}
 use Rattle.cursor.specs.declared.Kinded.TheVariants.{Plain, Literal}
-use Rattle.cursor.specs.declared.Step.{Step}
-use Rattle.cursor.specs.declared.Step.TheVariants.{Got, Over}
 use Rattle.cursor.specs.declared.Scanned.{Scanned}
 use Rattle.cursor.specs.Cursors.{rest, Seen}
 use Rattle.cursor.specs.Ran.{kind_from, Past, Begun}
@@ -64,8 +63,8 @@ same_bare : {l₁ l₂ n₁ n₂ : ℕ} {k₁ k₂ : TokenKind} {t₁ t₂ : Boo
 same_bare p q r s = rw (p, q, r, s)
 
 -- THE END
-module _ (L : Lists) (s : List ℕ) {at : ℕ} (on : Bool) {a : Cursor} {r : Step} (e : a.at ≡ at) (h : Seen s a r) where
-  pub at_end : r ≡ Over → record { kind = kind.Eof; len = 0; next = at; on = on } ≡ bare_at L s at on
+module _ (L : Lists) (s : List ℕ) {at : ℕ} (on : Bool) {a : Cursor} {r : Option (ℕ × Cursor)} (e : a.at ≡ at) (h : Seen s a r) where
+  pub at_end : r ≡ None → record { kind = kind.Eof; len = 0; next = at; on = on } ≡ bare_at L s at on
   unfolding bare_at token_size advance
   at_end q =
       let n : chars (drop at s) ≡ [] = sym (rest_at s a e) ∙ end_at q h in
@@ -73,7 +72,7 @@ module _ (L : Lists) (s : List ℕ) {at : ℕ} (on : Bool) {a : Cursor} {r : Ste
       same_bare (sym (ap (λ (cs : List ℕ). (advance L on cs).said.kind) n)) (sym z) (omega (arith, z)) (sym (ap (λ (cs : List ℕ). (advance L on cs).said.on) n))
 
   -- A CHARACTER, and what the decision over it gives
-  module _ {c : ℕ} {b : Cursor} (q : r ≡ Got c b) {x : Scanned} (g : Begun (decided L on c) s b x) where
+  module _ {c : ℕ} {b : Cursor} (q : r ≡ Some (c, b)) {x : Scanned} (g : Begun (decided L on c) s b x) where
     begins : chars (drop at s) ≡ c ∷ rest s b
     begins = sym (rest_at s a e) ∙ (char_at q h).chars
 

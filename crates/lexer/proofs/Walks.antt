@@ -15,10 +15,9 @@ use Rattle.token.specs.Tokens.{tokens, tokens_after, in_place, placed}
 use Rattle.token.proofs.Cover.{advance_some, size_append}
 use Rattle.lexer.specs.declared.Bare.{Bare}
 use Rattle.lexer.specs.declared.Scan.{Scan}
-use Rattle.lexer.specs.Checked.{Checked}
 use Rattle.lexer.specs.Scans.{token_size, bare_at, records_from}
 use Rattle.lexer.specs.Steps.{before_of, start_of, next_of, records_past}
-use Rattle.lexer.specs.Ready.{Ready}
+use Rattle.lexer.specs.Ready.{Lined}
 use Rattle.lexer.proofs.Records.{past_token, step_records, next_boundary}
 
 -- a text begins on a boundary
@@ -109,21 +108,18 @@ module _ (L : Lists) (s : List ℕ) (c : Scan) {x : Scan} (e : x ≡ next_of L s
     pub fewer : length (chars (drop x.next s)) < length (chars (drop c.next s))
     fewer = rw e (fewer_left L s c.next c.on refl t)
 
-  -- IT IS READY for the next step where the one before it was
-  pub next_ready : Ready s L c → Ready s L x
-  next_ready r = rw e (record {
-    checked = r.checked;
-    lined = record {
-      line = refl;
-      forward = omega (arith, ends_past L s c.next c.on refl);
-      inside = past_inside L s c.next c.on refl r.lined.inside;
-      fits = r.lined.fits;
-    };
+  -- IT IS LINED where the one before it was
+  pub next_lined : Lined s c → Lined s x
+  next_lined r = rw e (record {
+    line = refl;
+    forward = omega (arith, ends_past L s c.next c.on refl);
+    inside = past_inside L s c.next c.on refl r.inside;
+    fits = r.fits;
   })
 
 -- and so is one before the first step
-pub before_ready : {L : Lists} {s : List ℕ} {at : ℕ} {on : Bool} {c : Scan} → Checked s L → at ≤ length s → c ≡ before_of s at on → Ready s L c
-before_ready k h e = rw e (record { checked = k; lined = record { line = refl; forward = omega arith; inside = h; fits = k.fits } })
+pub before_lined : {s : List ℕ} {at : ℕ} {on : Bool} {c : Scan} → length s ≤ 4294967295 → at ≤ length s → c ≡ before_of s at on → Lined s c
+before_lined k h e = rw e (record { line = refl; forward = omega arith; inside = h; fits = k })
 
-pub start_ready : {L : Lists} {s : List ℕ} {on : Bool} {c : Scan} → Checked s L → c ≡ start_of on → Ready s L c
-start_ready {on = on} k e = before_ready {on = on} k (omega arith) e
+pub start_lined : {s : List ℕ} {on : Bool} {c : Scan} → length s ≤ 4294967295 → c ≡ start_of on → Lined s c
+start_lined {on = on} k e = before_lined {on = on} k (omega arith) e

@@ -4,3 +4,4 @@ pub mod Steps
 pub mod Ready
 pub mod Answers
 pub mod Taken
+pub mod Sources

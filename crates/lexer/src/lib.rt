@@ -7,14 +7,75 @@ ghost use Rattle.token.specs.Lists.{lent};
 ghost use Rattle.cursor.specs.Ran.{kind_from};
 ghost use Rattle.lexer.specs.Scans.{Narrow, bare_at};
 ghost use Rattle.lexer.specs.Checked.{Checked};
+ghost use Rattle.lexer.specs.Sources.{source_of};
 ghost use Rattle.lexer.specs.Steps.{before_in, before_of, start_of, next_of};
-ghost use Rattle.lexer.specs.Ready.{Lined, Ready};
+ghost use Rattle.lexer.specs.Ready.{Lined};
 ghost use Rattle.lexer.specs.Answers.{token_verdict, one_token, token_numbers};
 
-use cursor::{Cursor, Kinded, Step};
+use cursor::{Cursor, Kinded};
+use lists::Lists;
 use ranges::MAX_PAIRS;
-use refusal::{Bad, Numbers, Verdict};
+use refusal::{Bad, Numbers, PlaceRefusal};
+use std::marker::Model;
 use token::{Token, TokenKind};
+
+// A text and three lists, all of them checked (refusals 1, 3 and 2): what every loop over a text goes by. In clauses it is the record of specs/Sources.
+#[derive(Drop)]
+pub struct Source<'a> {
+    text: &'a [u8],
+    lists: Lists<'a>,
+}
+
+impl<'a> Model for Source<'a> {
+    ghost use Rattle.lexer.specs.Checked.{Checked};
+    ghost use Rattle.lexer.specs.Sources as sources;
+
+    ghost Value = { sources.Source };
+
+    ghost view = { λ f. record { text = f.text.now; lists = f.lists } };
+
+    ghost invariant = { λ f. Checked f.text.now f.lists };
+}
+
+impl<'a> Source<'a> {
+    // Refusals 1, 3 and 2 in this order.
+    pub fn new(
+        text: &'a [u8],
+        starts: &'a [u32],
+        continues: &'a [u32],
+        emoji: &'a [u32],
+    ) -> Result<Source<'a>, Bad>
+        ensures { result ≡ source_of MAX_PAIRS text.now (lent starts.now continues.now emoji.now) }
+    {
+        token_verdict(text, starts, continues, emoji)?;
+        let lists = Lists::new(starts, continues, emoji);
+        Ok(Source { text, lists })
+    }
+
+    // Its text; and that it is checked, for those who see the value alone.
+    pub fn text(&self) -> &[u8]
+        ensures bytes { result.now ≡ self.now.text }
+        ensures checked { Checked self.now.text self.now.lists }
+    {
+        self.text
+    }
+
+    // Its lists.
+    pub fn lists(&self) -> &Lists<'a>
+        ensures { result.now ≡ self.now.lists }
+    {
+        &self.lists
+    }
+
+    // Before its first token.
+    pub fn start(&self, on: bool) -> Scan
+        ensures scan { result ≡ start_of on }
+        ensures lined { Lined self.now.text result }
+    {
+        let _ = &self.text;
+        before_in(0, 0, on)
+    }
+}
 
 // A token, the position past it, and whether frontmatter is on there: the whole state of a loop over a text.
 #[derive(Clone, Copy)]
@@ -50,20 +111,12 @@ fn kind_from(kind: Kinded, from: Cursor) -> TokenKind
     }
 }
 
-// The token at a position of a text that was checked, with lists that were checked, without its place: for loops that need no lines. The end is answered
-// first.
-pub fn bare_token(
-    text: &[u8],
-    starts: &[u32],
-    continues: &[u32],
-    emoji: &[u32],
-    at: usize,
-    on: bool,
-) -> Bare
-    requires { Checked text.now (lent starts.now continues.now emoji.now) }
-    ensures { result ≡ bare_at (lent starts.now continues.now emoji.now) text.now at on }
+// The token at a position of a text within the limit, without its place. The end is answered first.
+fn bare_in(text: &[u8], lists: &Lists, at: usize, on: bool) -> Bare
+    requires { length text.now ≤ 4294967295 }
+    ensures { result ≡ bare_at lists.now text.now at on }
 {
-    let Step::Got(first, from) = Cursor::new(at).peek(text) else {
+    let Some((first, from)) = Cursor::new(at).peek(text) else {
         return Bare {
             kind: TokenKind::Eof,
             len: 0,
@@ -71,7 +124,7 @@ pub fn bare_token(
             on,
         };
     };
-    let scanned = advance::advance_token(text, first, from, on, starts, continues, emoji);
+    let scanned = advance::advance_token(text, first, from, on, lists);
     let kinded = scanned.kind;
     let next = scanned.next.place();
     let kind = kind_from(kinded, from);
@@ -83,6 +136,13 @@ pub fn bare_token(
         on: advance::stays_on(on, kind),
     };
     found
+}
+
+// The token at a position of a text that was checked, without its place: for loops that need no lines.
+pub fn bare_token(source: &Source, at: usize, on: bool) -> Bare
+    ensures { result ≡ bare_at source.now.lists source.now.text at on }
+{
+    bare_in(source.text, &source.lists, at, on)
 }
 
 // Before the token at a position in line `line`: in its place Eof, of no length.
@@ -128,14 +188,15 @@ fn next_line(text: &[u8], c: Scan) -> u32
     token.line + line_feeds::count(&text[from..to])
 }
 
-// The scan past a scan of a text that was checked, with lists that were checked.
-pub fn step(text: &[u8], starts: &[u32], continues: &[u32], emoji: &[u32], c: Scan) -> Scan
-    requires { Ready text.now (lent starts.now continues.now emoji.now) c }
-    ensures { result ≡ next_of (lent starts.now continues.now emoji.now) text.now c }
+// The scan past a scan of a text that was checked. What is handed back goes on in the text too.
+pub fn step(source: &Source, c: Scan) -> Scan
+    requires { Lined source.now.text c }
+    ensures token { result ≡ next_of source.now.lists source.now.text c }
+    ensures lined { Lined source.now.text result }
 {
-    let line = next_line(text, c);
+    let line = next_line(source.text(), c);
     let start = c.next;
-    let found = bare_token(text, starts, continues, emoji, start, c.on);
+    let found = bare_token(source, start, c.on);
     let kind = found.kind;
     let token = Token {
         kind,
@@ -150,36 +211,23 @@ pub fn step(text: &[u8], starts: &[u32], continues: &[u32], emoji: &[u32], c: Sc
     }
 }
 
-// What the one-token call says: a token, or that the position is past the end or inside a character (4), or a refusal (1, 3, 2).
-#[derive(Clone, Copy)]
-pub enum OneToken {
-    Given(Scan),
-    Position(usize),
-    Refused(Bad),
-}
-
-// The answer by number.
-pub fn token_numbers(answer: OneToken) -> Numbers
+// The answer of the one-token call by number: the position past the token, and 1 where frontmatter is on there; or the refusal.
+pub fn token_numbers(answer: Result<Scan, PlaceRefusal>) -> Numbers
     ensures { result ≡ token_numbers answer }
 {
     match answer {
-        OneToken::Given(scan) => {
-            if scan.on {
-                return refusal::done(scan.next, 1);
-            }
-            refusal::done(scan.next, 0)
-        }
-        OneToken::Position(at) => Numbers {
-            number: 4,
-            beside: at,
-            second: 0,
-        },
-        OneToken::Refused(bad) => refusal::bad_numbers(bad),
+        Ok(scan) => refusal::done(scan.next, usize::from(scan.on)),
+        Err(refused) => refusal::place_numbers(refused),
     }
 }
 
 // What the one-token call checks of a text and three lists: 1, 3, 2.
-pub fn token_verdict(text: &[u8], starts: &[u32], continues: &[u32], emoji: &[u32]) -> Verdict
+pub fn token_verdict(
+    text: &[u8],
+    starts: &[u32],
+    continues: &[u32],
+    emoji: &[u32],
+) -> Result<(), Bad>
     ensures { result ≡ token_verdict MAX_PAIRS text.now (lent starts.now continues.now emoji.now) }
 {
     let long = text::check_length(text);
@@ -199,17 +247,12 @@ pub fn advance_token(
     emoji: &[u32],
     at: usize,
     on: bool,
-) -> OneToken
+) -> Result<Scan, PlaceRefusal>
     ensures { result ≡ one_token MAX_PAIRS text.now (lent starts.now continues.now emoji.now) at on }
 {
-    match token_verdict(text, starts, continues, emoji) {
-        Verdict::Fine => {
-            if text::starts_here(text, at) {
-                let c = before(text, at, on);
-                return OneToken::Given(step(text, starts, continues, emoji, c));
-            }
-            OneToken::Position(at)
-        }
-        Verdict::Refused(bad) => OneToken::Refused(bad),
+    let source = Source::new(text, starts, continues, emoji)?;
+    if !text::starts_here(text, at) {
+        return Err(PlaceRefusal::Position(at));
     }
+    Ok(step(&source, before(text, at, on)))
 }

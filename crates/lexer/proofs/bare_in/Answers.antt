@@ -1,6 +1,6 @@
--- `lexer::bare_token` meets its contract. The end, or what the decision over the first character gives, in bytes (Scanning).
+-- `lexer::bare_in` meets its contract. The end, or what the decision over the first character gives, in bytes (Scanning).
 use Rattle.lexer.proofs.Scanning.{at_end, kind_narrow, not_before, len_narrow, scanned}
-use Rattle.lexer.proofs.bare_token.Goals as goal
+use Rattle.lexer.proofs.bare_in.Goals as goal
 
 pub returns-in_default : goal.returns-in_default
 returns-in_default c = search at_end
