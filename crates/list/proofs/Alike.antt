@@ -10,8 +10,7 @@ use Rattle.token.specs.Alike.{Alike}
 use Rattle.token.proofs.Alike.{same_records}
 use Rattle.lexer.specs.Taken.{Taken}
 use Rattle.lexer.proofs.Alike.{same_verdict}
-use Rattle.plan.specs.declared.ListAnswer.{ListAnswer}
-use Rattle.plan.specs.Answers.{list_answer}
+use Rattle.plan.specs.Answers.{ListAnswer, list_answer}
 use Rattle.list.specs.Records.{Tokenized}
 use Rattle.list.proofs.Answers.{one_list}
 

@@ -3,8 +3,7 @@ use Rattle.std.specs.Prelude.{ℕ, Bool, List, ◌≡◌, length, replicate}
 use Rattle.token.specs.declared.Token.{Token}
 use Rattle.token.specs.Lists.{Lists}
 use Rattle.token.specs.Tokens.{records}
-use Rattle.plan.specs.declared.ListAnswer.{ListAnswer}
-use Rattle.plan.specs.Answers.{list_answer, listed}
+use Rattle.plan.specs.Answers.{ListAnswer, list_answer, listed}
 use Rattle.list.specs.declared.Records as declared
 
 -- THE LIST CALL: the answer, and what the lent records hold at last

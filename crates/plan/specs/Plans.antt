@@ -1,17 +1,14 @@
 -- What the list call is to do: its answer, and how many records it writes, none where it refuses.
-use Rattle.std.specs.Prelude.{ℕ, Bool, List}
+use Rattle.std.specs.Prelude.{ℕ, Bool, List, Ok, Err}
 use Rattle.token.specs.Lists.{Lists}
 use Rattle.lexer.specs.Steps.{start_of}
-use Rattle.plan.specs.declared.ListAnswer.{ListAnswer}
-use Rattle.plan.specs.declared.ListAnswer.TheVariants.{Listed, Slots, Refused}
 use Rattle.plan.specs.declared.Plan as plan
-use Rattle.plan.specs.Answers.{list_answer}
+use Rattle.plan.specs.Answers.{ListAnswer, list_answer}
 
 -- how many records are to be written
 abbrev pub to_write : ListAnswer → ℕ
-to_write (Listed n) = n
-to_write (Slots n) = 0
-to_write (Refused bad) = 0
+to_write (Ok n) = n
+to_write (Err refusal) = 0
 
 abbrev pub planned_of : (on : Bool) → ListAnswer → (n : ℕ) → plan.Plan
 planned_of on answer n = record { answer = answer; n = n; first = start_of on }

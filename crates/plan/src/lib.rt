@@ -4,75 +4,100 @@
 ghost use Rattle.std.specs.Prelude.{◌≡◌, length};
 ghost use Rattle.token.specs.Lists.{lent};
 ghost use Rattle.token.specs.Tokens.{records};
-ghost use Rattle.lexer.specs.Checked.{Checked};
-ghost use Rattle.plan.specs.Answers.{list_numbers};
+ghost use Rattle.plan.specs.Answers.{roomed, list_answer, list_numbers};
 ghost use Rattle.plan.specs.Plans.{planned_of, plan_of};
+ghost use Rattle.plan.specs.declared.ListRefusal.TheVariants.{Shared};
 
-use lexer::Scan;
+use lexer::{Scan, Source};
 use ranges::MAX_PAIRS;
-use refusal::{Bad, Numbers, Verdict};
+use refusal::{Bad, Numbers};
 
-// What the list call says: done, with the number of tokens; fewer slots than tokens (5), with the number of tokens; or a refusal (1, 3, 2).
+// The refusals of the list call: fewer slots than tokens (5), with the number of tokens; or one that calls share (1, 3, 2).
 #[derive(Clone, Copy)]
-pub enum ListAnswer {
-    Listed(usize),
+pub enum ListRefusal {
     Slots(usize),
-    Refused(Bad),
+    Shared(Bad),
 }
 
-// The answer by number.
-pub fn list_numbers(answer: ListAnswer) -> Numbers
-    ensures { result ≡ list_numbers answer }
-{
-    match answer {
-        ListAnswer::Listed(tokens) => Numbers {
-            number: 0,
-            beside: tokens,
-            second: 0,
-        },
-        ListAnswer::Slots(needed) => Numbers {
-            number: 5,
-            beside: needed,
-            second: 0,
-        },
-        ListAnswer::Refused(bad) => refusal::bad_numbers(bad),
+impl From<Bad> for ListRefusal {
+    ghost from_gives = { λ bad refusal. refusal ≡ Shared bad };
+
+    fn from(bad: Bad) -> ListRefusal {
+        ListRefusal::Shared(bad)
     }
 }
 
-// What is answered, how many records are written, and the scan before the first of them.
+// The answer of the list call by number: done, with the number of tokens, or the refusal.
+pub fn list_numbers(answer: Result<usize, ListRefusal>) -> Numbers
+    ensures { result ≡ list_numbers answer }
+{
+    match answer {
+        Ok(tokens) => refusal::done(tokens, 0),
+        Err(ListRefusal::Slots(needed)) => refusal::refused(5, needed),
+        Err(ListRefusal::Shared(bad)) => refusal::bad_numbers(bad),
+    }
+}
+
+// What is answered, how many records are written, and the scan before the first of them. All three stand here, since they are what `plan_list` promises.
 #[derive(Clone, Copy)]
 pub struct Plan {
-    pub answer: ListAnswer,
+    pub answer: Result<usize, ListRefusal>,
     pub n: usize,
     pub first: Scan,
 }
 
 // The number of tokens of a text that was checked, in one pass.
-fn count(text: &[u8], starts: &[u32], continues: &[u32], emoji: &[u32], on: bool) -> usize
-    requires { Checked text.now (lent starts.now continues.now emoji.now) }
-    ensures { result ≡ length (records (lent starts.now continues.now emoji.now) on text.now) }
+fn count(source: &Source, on: bool) -> usize
+    ensures { result ≡ length (records source.now.lists on source.now.text) }
 {
+    let text = source.text();
     let mut n: usize = 0;
     let mut at: usize = 0;
     let mut here = on;
     while at < text.len() {
-        let token = lexer::bare_token(text, starts, continues, emoji, at, here);
+        let token = lexer::bare_token(source, at, here);
         at = token.next;
         here = token.on;
-        n = n + 1;
+        n += 1;
     }
     n
 }
 
+// The number of tokens of a text that was checked, if there are so many slots: refusal 5.
+pub fn fitting(source: &Source, on: bool, slots: usize) -> Result<usize, ListRefusal>
+    ensures { result ≡ roomed (length (records source.now.lists on source.now.text)) slots }
+{
+    let needed = count(source, on);
+    if slots < needed {
+        return Err(ListRefusal::Slots(needed));
+    }
+    Ok(needed)
+}
+
 // An answer, and n records from the first token on.
-fn planned(answer: ListAnswer, n: usize, on: bool) -> Plan
+fn planned(answer: Result<usize, ListRefusal>, n: usize, on: bool) -> Plan
     ensures { result ≡ planned_of on answer n }
 {
     let first = lexer::start(on);
     Plan { answer, n, first }
 }
 
-// What the list call is to do with `slots` slots: refusals 1, 3, 2 and 5 in this order, and no record where there is one.
+// The answer of the list call with `slots` slots: refusals 1, 3, 2 and 5 in this order.
+fn answer_of(
+    text: &[u8],
+    starts: &[u32],
+    continues: &[u32],
+    emoji: &[u32],
+    on: bool,
+    slots: usize,
+) -> Result<usize, ListRefusal>
+    ensures { result ≡ list_answer MAX_PAIRS text.now (lent starts.now continues.now emoji.now) on slots }
+{
+    let source = Source::new(text, starts, continues, emoji)?;
+    fitting(&source, on, slots)
+}
+
+// PUBLIC. What the list call is to do with `slots` slots: its answer, and no record where it refuses.
 pub fn plan_list(
     text: &[u8],
     starts: &[u32],
@@ -83,14 +108,8 @@ pub fn plan_list(
 ) -> Plan
     ensures { result ≡ plan_of MAX_PAIRS text.now (lent starts.now continues.now emoji.now) on slots }
 {
-    match lexer::token_verdict(text, starts, continues, emoji) {
-        Verdict::Fine => {
-            let needed = count(text, starts, continues, emoji, on);
-            if needed <= slots {
-                return planned(ListAnswer::Listed(needed), needed, on);
-            }
-            planned(ListAnswer::Slots(needed), 0, on)
-        }
-        Verdict::Refused(bad) => planned(ListAnswer::Refused(bad), 0, on),
+    match answer_of(text, starts, continues, emoji, on, slots) {
+        Ok(n) => planned(Ok(n), n, on),
+        Err(refusal) => planned(Err(refusal), 0, on),
     }
 }
