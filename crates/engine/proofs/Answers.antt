@@ -4,7 +4,7 @@ use mathlib.Core.Bool.{Bool}
 use mathlib.Core.List.{List}
 use Prim.Native.Nat.{ℕ}
 use Rattle.token.specs.Lists.{Lists}
-use Rattle.engine.specs.declared.Need.{Need}
+use Rattle.engine.specs.Needs.{Need}
 use Rattle.engine.specs.Wholes.{KeyMade}
 
 module _ {writing : Bool} {L : Lists} {s before after later : List ℕ} {r q : Need} (f : KeyMade writing L s before after r) (g : KeyMade writing L s before later q) where

@@ -1,4 +1,5 @@
 -- The end of a text, mode by mode.
+use Rattle.std.specs.Prelude.{Option, None, Some}
 use Prim.Native.Nat.{ℕ}
 use mathlib.Core.Path.{◌≡◌, refl, sym, ap, subst, ◌∙◌}
 use mathlib.Core.Bool.{Bool, true, false}
@@ -14,33 +15,30 @@ use Rattle.turns.specs.declared.Before.{Before}
 use Rattle.turns.specs.declared.Before.TheVariants.{Nothing, Newline, Slash, Slashes3}
 use Rattle.turns.specs.Held.{newline_or}
 use Rattle.turns.specs.Shown.{before_out}
-use Rattle.engine.specs.declared.End.{End}
-use Rattle.engine.specs.declared.End.TheVariants.{Rest, Broken}
 use Rattle.engine.specs.Ends.{end_result, Ends}
 
-ends_as : {m k : Mode} {e : End} → m ≡ k → ((from : ℕ) → end_result from e ≡ finish from k) → Ends m e
+ends_as : {m k : Mode} {e : Option Before} → m ≡ k → ((from : ℕ) → end_result from e ≡ finish from k) → Ends m e
 ends_as {m} {k} {e} q h = subst (λ (x : Mode). Ends x e) (sym q) (record { ends = h })
 
 -- WHAT IS HELD BACK IS WRITTEN
-pub end_one : {m : Mode} {r : Bool} → m ≡ mode.OneSlash r → Ends m (Rest Slash)
+pub end_one : {m : Mode} {r : Bool} → m ≡ mode.OneSlash r → Ends m (Some Slash)
 end_one q = ends_as q (λ from. refl)
 
-pub end_two : {m : Mode} {r : Bool} {b : Before} → m ≡ mode.TwoSlashes r → b ≡ newline_or r → Ends m (Rest b)
-unfolding newline_or
+pub end_two : {m : Mode} {r : Bool} {b : Before} → m ≡ mode.TwoSlashes r → b ≡ newline_or r → Ends m (Some b)
 end_two {r = r} {b = b} q e = ends_as q (λ from. ap (λ (x : Before). ok (before_out x)) e ∙ go r)
   where
     go : (t : Bool) → ok (before_out (pick t Nothing Newline)) ≡ finish 0 (mode.TwoSlashes t)
     go true = refl
     go false = refl
 
-pub end_three : {m : Mode} {r : Bool} → m ≡ mode.ThreeSlashes r → Ends m (Rest Slashes3)
+pub end_three : {m : Mode} {r : Bool} → m ≡ mode.ThreeSlashes r → Ends m (Some Slashes3)
 end_three q = ends_as q (λ from. refl)
 
 -- A TOKEN THAT IS NOT ENDED IS BROKEN: these modes, by their places in the enum
 abbrev unended : List ℕ
 unended = 4 ∷ 5 ∷ 8 ∷ 13 ∷ 14 ∷ 15 ∷ 17 ∷ 24 ∷ 25 ∷ 27 ∷ 30 ∷ 31 ∷ 32 ∷ 33 ∷ 34 ∷ []
 
-pub end_broken : (m : Mode) → OneOf unended (tag_of the_type m) → Ends m Broken
+pub end_broken : (m : Mode) → OneOf unended (tag_of the_type m) → Ends m None
 end_broken (mode.Start r) h = absurd (miss unended 0 tt h)
 end_broken (mode.OneSlash r) h = absurd (miss unended 1 tt h)
 end_broken (mode.TwoSlashes r) h = absurd (miss unended 2 tt h)
@@ -89,7 +87,7 @@ end_broken mode.InExponent h = absurd (miss unended 42 tt h)
 abbrev quiet : List ℕ
 quiet = 0 ∷ 6 ∷ 7 ∷ 9 ∷ 10 ∷ 11 ∷ 12 ∷ 16 ∷ 18 ∷ 19 ∷ 20 ∷ 21 ∷ 22 ∷ 23 ∷ 26 ∷ 28 ∷ 29 ∷ 35 ∷ 36 ∷ 37 ∷ 38 ∷ 39 ∷ 40 ∷ 41 ∷ 42 ∷ []
 
-pub end_quiet : (m : Mode) → OneOf quiet (tag_of the_type m) → Ends m (Rest Nothing)
+pub end_quiet : (m : Mode) → OneOf quiet (tag_of the_type m) → Ends m (Some Nothing)
 end_quiet (mode.Start r) h = record { ends = λ from. refl }
 end_quiet (mode.OneSlash r) h = absurd (miss quiet 1 tt h)
 end_quiet (mode.TwoSlashes r) h = absurd (miss quiet 2 tt h)

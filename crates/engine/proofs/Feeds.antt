@@ -6,7 +6,7 @@ use mathlib.Core.List.{List, [], ◌∷◌, ◌++◌}
 use lib.ListN.{length}
 use Rattle.basics.specs.Choice.{pick}
 use Rattle.text.specs.Chars.{encode, encode_one}
-use Rattle.token.specs.Lists.{lent}
+use Rattle.token.specs.Lists.{Lists}
 use Rattle.canon.proofs.Spelling.{encode_append}
 use Rattle.machine.specs.declared.Mode.{Mode}
 use Rattle.machine.specs.Machine.{Next, step}
@@ -16,7 +16,8 @@ use Rattle.turns.specs.declared.Shown.{Shown}
 use Rattle.turns.specs.declared.Shown.TheVariants.{Itself, Line, None}
 use Rattle.turns.specs.declared.Stepped.{Stepped}
 use Rattle.turns.specs.Shown.{before_out}
-use Rattle.turns.specs.Steps.{Stepping, shown_out, whole_out, Does}
+use Rattle.goes.specs.Went.{Shallow}
+use Rattle.turns.specs.Steps.{shown_out, whole_out, Does}
 use Rattle.engine.specs.Laid.{Laid, Room, shown_bytes}
 use Rattle.engine.specs.Chars.{step_bytes, Laying, CharFeeding, CharFed}
 
@@ -43,12 +44,12 @@ coded c t =
     ∙ ap (λ (l : List ℕ). l ++ encode (shown_out c t.shown)) (plain_before t.before)
     ∙ ap (λ (l : List ℕ). before_out t.before ++ l) (shown_coded c t.shown)
 
-module _ {w : Bool} {mode : Mode} {from at c : ℕ} {text : List ℕ} {i next : ℕ} (a b e : List ℕ) {o : List ℕ} {n : ℕ} (f : CharFeeding w mode from at c text i next a b e o n) where
-  pub char_steps : Stepping mode a b e
+module _ {w : Bool} {mode : Mode} {from at c : ℕ} {text : List ℕ} {i next : ℕ} (L : Lists) {o : List ℕ} {n : ℕ} (f : CharFeeding w L mode from at c text i next o n) where
+  pub char_steps : Shallow mode
   char_steps = f.stepping
 
-  module _ {t : Stepped} {u : Before} {s : Shown} (d : Does (lent a b e) mode c t) (p : u ≡ t.before) (q : s ≡ t.shown) where
-    same_bytes : step_bytes u s text i next ≡ encode (step (lent a b e) from at mode c).out
+  module _ {t : Stepped} {u : Before} {s : Shown} (d : Does L mode c t) (p : u ≡ t.before) (q : s ≡ t.shown) where
+    same_bytes : step_bytes u s text i next ≡ encode (step L from at mode c).out
     same_bytes =
         ap (λ (x : Before). step_bytes x s text i next) p
         ∙ ap (λ (x : Shown). step_bytes t.before x text i next) q
@@ -60,7 +61,7 @@ module _ {w : Bool} {mode : Mode} {from at c : ℕ} {text : List ℕ} {i next : 
     char_lays = record { part = f.part; room = subst (λ (l : List ℕ). Room w o n (length l)) (sym same_bytes) f.room }
 
     pub char_fed : {m : Mode} {after : List ℕ} {r place : ℕ} → m ≡ t.mode → Laid w (step_bytes u s text i next) o n after r → place ≡ pick t.begins at from
-        → CharFed w (step (lent a b e) from at mode c) o n after (record { mode = m; from = place; n = r })
+        → CharFed w (step L from at mode c) o n after (record { mode = m; from = place; n = r })
     char_fed {after = after} {r = r} g l k =
         record {
           laid = subst (λ (z : List ℕ). Laid w z o n after r) same_bytes l;

@@ -15,7 +15,7 @@ use Rattle.text.specs.Chars.{chars, size, width, encode, encode_one}
 use Rattle.text.proofs.Coding.{Fact, length_encode_one}
 use Rattle.text.proofs.Texts.{told, length_encode, size_chars}
 use Rattle.text.proofs.Places.{char_chars, end_chars, ill_chars}
-use Rattle.token.specs.Lists.{Lists, lent}
+use Rattle.token.specs.Lists.{Lists}
 use Rattle.line_ends.specs.LineEnds.{cr_lf, replaced}
 use Rattle.canon.proofs.Spelling.{encode_append}
 use Rattle.machine.specs.declared.Mode.{Mode}
@@ -47,9 +47,9 @@ pub record Upto (w : Bool) (L : Lists) (s : State) (text o : List ℕ) (i : ℕ)
   pub deep : deepest mode ≤ at
   pub reached : at ≤ s.at + i
 
-pub upto_none : (w : Bool) (a b e text o : List ℕ) (mode : Mode) (from at : ℕ) → Feeding w (state mode from at) text a b e o → Upto w (lent a b e) (state mode from at) text o 0 mode from at o 0
+pub upto_none : (w : Bool) (L : Lists) (s : State) (text o : List ℕ) → Feeding w L s text o → Upto w L s text o 0 s.mode s.from s.at o 0
 unfolding encode
-upto_none w a b e text o mode from at f = record { written = []; same = refl; laid = laid_none w o 0 (λ t. omega arith); deep = f.shallow; reached = omega arith }
+upto_none w L s text o f = record { written = []; same = refl; laid = laid_none w o 0 (λ t. omega arith); deep = f.shallow; reached = omega arith }
 
 -- WHAT THE CHARACTER AT A PLACE TELLS
 record Here (text : List ℕ) (i c w : ℕ) : Type 0 where
@@ -87,10 +87,7 @@ pub fed_few : (L : Lists) (s : State) (text : List ℕ) → length (encode (fed_
 fed_few L s text =
     omega (arith, length_encode (fed_by L s text).out, room L s (replaced (chars text)), few_held s.mode, size_replaced (chars text), size_chars text)
 
-module _ (w : Bool) (a b e text o : List ℕ) (i : ℕ) (mode mode₀ : Mode) (from from₀ at at₀ : ℕ) (out : List ℕ) (n : ℕ) {r : Decoded} {c k : ℕ} (f : Feeding w (state mode₀ from₀ at₀) text a b e o) (u : Upto w (lent a b e) (state mode₀ from₀ at₀) text o i mode from at out n) (p : r ≡ decoded (drop i text)) (q : r ≡ Char c k) where
-  abbrev L : Lists
-  L = lent a b e
-
+module _ (w : Bool) (L : Lists) (text o : List ℕ) (i : ℕ) (s₀ : State) (mode : Mode) (from at : ℕ) (out : List ℕ) (n : ℕ) {r : Decoded} {c k : ℕ} (f : Feeding w L s₀ text o) (u : Upto w L s₀ text o i mode from at out n) (p : r ≡ decoded (drop i text)) (q : r ≡ Char c k) where
   abbrev N : Next
   N = step L from at mode c
 
@@ -107,7 +104,7 @@ module _ (w : Bool) (a b e text o : List ℕ) (i : ℕ) (mode mode₀ : Mode) (f
   fewer = omega (arith, h.within, h.fact.some)
 
   -- a CR that LF follows is not fed
-  pub on_cr : {t : Bool} → t ≡ cr_lf c (chars (drop (i + k) text)) → t ≡ true → Upto w L (state mode₀ from₀ at₀) text o (i + k) mode from at out n
+  pub on_cr : {t : Bool} → t ≡ cr_lf c (chars (drop (i + k) text)) → t ≡ true → Upto w L s₀ text o (i + k) mode from at out n
   on_cr {t} x y =
       let z : replaced (chars (drop i text)) ≡ replaced (chars (drop (i + k) text)) = ap replaced h.after ∙ ap (λ (v : Bool). pick v (replaced (chars (drop (i + k) text))) (c ∷ replaced (chars (drop (i + k) text)))) (sym x ∙ y) in
       record {
@@ -119,7 +116,7 @@ module _ (w : Bool) (a b e text o : List ℕ) (i : ℕ) (mode mode₀ : Mode) (f
       }
 
   -- any other character is
-  fed : {t : Bool} → t ≡ cr_lf c (chars (drop (i + k) text)) → t ≡ false → fed_by L (state mode₀ from₀ at₀) text ≡ onward (u.written ++ N.out) (rest L text (i + k) N.mode N.from (at + k))
+  fed : {t : Bool} → t ≡ cr_lf c (chars (drop (i + k) text)) → t ≡ false → fed_by L s₀ text ≡ onward (u.written ++ N.out) (rest L text (i + k) N.mode N.from (at + k))
   fed x y =
       let z : replaced (chars (drop i text)) ≡ c ∷ replaced (chars (drop (i + k) text)) = ap replaced h.after ∙ ap (λ (v : Bool). pick v (replaced (chars (drop (i + k) text))) (c ∷ replaced (chars (drop (i + k) text)))) (sym x ∙ y) in
       let g : stream.Fed State = rest L text (i + k) N.mode N.from (at + width c) in
@@ -129,28 +126,28 @@ module _ (w : Bool) (a b e text o : List ℕ) (i : ℕ) (mode mode₀ : Mode) (f
       ∙ ap (λ (j : ℕ). onward (u.written ++ N.out) (rest L text (i + k) N.mode N.from (at + j))) h.fact.wide
 
   -- there is room for what the machine writes of it
-  within : {t : Bool} → t ≡ cr_lf c (chars (drop (i + k) text)) → t ≡ false → n + length (encode N.out) ≤ length (encode (fed_by L (state mode₀ from₀ at₀) text).out)
+  within : {t : Bool} → t ≡ cr_lf c (chars (drop (i + k) text)) → t ≡ false → n + length (encode N.out) ≤ length (encode (fed_by L s₀ text).out)
   within x y =
       let g : stream.Fed State = rest L text (i + k) N.mode N.from (at + k) in
-      let v : encode (fed_by L (state mode₀ from₀ at₀) text).out ≡ (encode u.written ++ encode N.out) ++ encode g.out =
+      let v : encode (fed_by L s₀ text).out ≡ (encode u.written ++ encode N.out) ++ encode g.out =
       ap (λ (z : stream.Fed State). encode z.out) (fed x y) ∙ encode_append (u.written ++ N.out) g.out ∙ ap (λ (l : List ℕ). l ++ encode g.out) (encode_append u.written N.out) in
       omega (arith, ap length v, length-append (encode u.written ++ encode N.out) (encode g.out), length-append (encode u.written) (encode N.out), u.laid.next)
 
-  pub on_char : {t : Bool} → t ≡ cr_lf c (chars (drop (i + k) text)) → t ≡ false → CharFeeding w mode from at c text i (i + k) a b e out n
+  pub on_char : {t : Bool} → t ≡ cr_lf c (chars (drop (i + k) text)) → t ≡ false → CharFeeding w L mode from at c text i (i + k) out n
   on_char {t} x y =
       let d : (i + k) - i ≡ k = omega arith in
       record {
-        stepping = record { starts_good = f.starts_good; continues_good = f.continues_good; emoji_good = f.emoji_good; shallow = omega (arith, u.deep, u.reached, h.within, h.fact.some, f.short) };
+        stepping = omega (arith, u.deep, u.reached, h.within, h.fact.some, f.short);
         part = record { forth = omega arith; within = h.within };
         spelled = ap (λ (j : ℕ). take j (drop i text)) d ∙ h.spelt;
         room = record {
-          fits = omega (arith, within x y, fed_few L (state mode₀ from₀ at₀) text, f.short);
+          fits = omega (arith, within x y, fed_few L s₀ text, f.short);
           room = λ z. omega (arith, within x y, f.room z, laid_length u.laid);
         };
       }
 
   pub on_fed : {t : Bool} {after : List ℕ} {g : Kept} → t ≡ cr_lf c (chars (drop (i + k) text)) → t ≡ false → CharFed w N out n after g
-      → Upto w L (state mode₀ from₀ at₀) text o (i + k) g.mode g.from (at + k) after g.n
+      → Upto w L s₀ text o (i + k) g.mode g.from (at + k) after g.n
   on_fed {t} {after} {g} x y z =
       record {
         written = u.written ++ N.out;
@@ -162,7 +159,7 @@ module _ (w : Bool) (a b e text o : List ℕ) (i : ℕ) (mode mode₀ : Mode) (f
 
 -- THE END
 module _ (w : Bool) (L : Lists) (s : State) (text o : List ℕ) (i : ℕ) (mode : Mode) (from at : ℕ) (out : List ℕ) (n : ℕ) (u : Upto w L s text o i mode from at out n) where
-  over : chars (drop i text) ≡ [] → Fed w L s text o out (record { mode = mode; from = from; at = at; n = n })
+  over : chars (drop i text) ≡ [] → Fed w L s text o out (record { state = state mode from at; n = n })
   over z =
       let y : fed_by L s text ≡ record { out = u.written; state = state mode from at } =
       u.same ∙ ap (λ (cs : List ℕ). onward u.written (feed L (state mode from at) (replaced cs))) z ∙ ap (λ (l : List ℕ). record { out = l; state = state mode from at }) (append-nil u.written) in
@@ -171,10 +168,10 @@ module _ (w : Bool) (L : Lists) (s : State) (text o : List ℕ) (i : ℕ) (mode 
         state = ap (λ (x : stream.Fed State). x.state) y;
       }
 
-  pub upto_end : {r : Decoded} → r ≡ decoded (drop i text) → r ≡ End → Fed w L s text o out (record { mode = mode; from = from; at = at; n = n })
+  pub upto_end : {r : Decoded} → r ≡ decoded (drop i text) → r ≡ End → Fed w L s text o out (record { state = state mode from at; n = n })
   upto_end p q = over (end_chars text i p q)
 
-  pub upto_ill : {r : Decoded} {k : Cause} → r ≡ decoded (drop i text) → r ≡ Ill k → Fed w L s text o out (record { mode = mode; from = from; at = at; n = n })
+  pub upto_ill : {r : Decoded} {k : Cause} → r ≡ decoded (drop i text) → r ≡ Ill k → Fed w L s text o out (record { state = state mode from at; n = n })
   upto_ill p q = over (ill_chars text i p q)
 
   pub upto_long : length out ≡ length o

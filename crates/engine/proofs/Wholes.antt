@@ -8,7 +8,7 @@ use native.Mathlib.Omega.{arith}
 use Rattle.basics.specs.Choice.{pick}
 use Rattle.text.specs.Chars.{WellFormed}
 use Rattle.eaters.specs.Find.{Place, at, nowhere}
-use Rattle.token.specs.Lists.{Lists, lent}
+use Rattle.token.specs.Lists.{Lists}
 use Rattle.line_ends.specs.LineEnds.{replaced}
 use Rattle.line_ends.proofs.Coded.{un_chars}
 use Rattle.canon.specs.Keyable.{broken_at}
@@ -18,7 +18,7 @@ use Rattle.machine.specs.declared.State.{State}
 use Rattle.machine.specs.Pieces.{begin, feed, ended}
 use Rattle.machine.specs.OneShot.{key_or, in_bytes}
 use Rattle.machine.proofs.Cut.{one_shot_lem}
-use Rattle.engine.specs.declared.Need.{Need}
+use Rattle.engine.specs.Needs.{Need}
 use Rattle.engine.specs.Runs.{state}
 use Rattle.engine.specs.Closes.{closed, is_ok, rest_of, need_in, Closing, Closed}
 use Rattle.engine.specs.Wholes.{need_for, KeyReady, KeyMade}
@@ -41,25 +41,22 @@ module _ (L : Lists) (text : List ℕ) (well : WellFormed text) (whole : broken_
   all_key : rest_of (closed L beginning text) ≡ key_of L (replaced text)
   all_key = ap rest_of (told L text well ∙ ap (λ (q : Place). key_or q (key_of L (replaced text))) whole)
 
-pub whole_closes : (w : Bool) (a b e text o : List ℕ) → KeyReady w text a b e o → Closing w beginning text a b e o
-whole_closes w a b e text o k =
+pub whole_closes : (w : Bool) (L : Lists) (text o : List ℕ) → KeyReady w L text o → Closing w L beginning text o
+whole_closes w L text o k =
     record {
-      starts_good = k.starts_good;
-      continues_good = k.continues_good;
-      emoji_good = k.emoji_good;
       shallow = omega arith;
       short = omega (arith, k.fits);
-      whole = λ t. all_ok (lent a b e) text k.well (k.whole t);
-      room = λ t. omega (arith, ap length (all_key (lent a b e) text k.well (k.whole t)), k.room t);
+      whole = λ t. all_ok L text k.well (k.whole t);
+      room = λ t. omega (arith, ap length (all_key L text k.well (k.whole t)), k.room t);
     }
 
-pub whole_made : (w : Bool) (a b e text o : List ℕ) {after : List ℕ} {r : Need} → KeyReady w text a b e o → Closed w (lent a b e) beginning text o after r → KeyMade w (lent a b e) text o after r
-whole_made w a b e text o {after} k c =
+pub whole_made : (w : Bool) (L : Lists) (text o : List ℕ) {after : List ℕ} {r : Need} → KeyReady w L text o → Closed w L beginning text o after r → KeyMade w L text o after r
+whole_made w L text o {after} k c =
     record {
-      need = c.need ∙ ap need_in (told (lent a b e) text k.well) ∙ need_for_lem (key_of (lent a b e) (replaced text)) (broken_at (lent a b e) (replaced text));
+      need = c.need ∙ ap need_in (told L text k.well) ∙ need_for_lem (key_of L (replaced text)) (broken_at L (replaced text));
       holds = c.holds ∙ same w refl;
     }
   where
-    same : (t : Bool) → w ≡ t → pick w (rest_of (closed (lent a b e) beginning text) ++ drop (length (rest_of (closed (lent a b e) beginning text))) o) o ≡ pick w (key_of (lent a b e) (replaced text) ++ drop (length (key_of (lent a b e) (replaced text))) o) o
-    same true g = ap (λ (l : List ℕ). pick w (l ++ drop (length l) o) o) (all_key (lent a b e) text k.well (k.whole g))
+    same : (t : Bool) → w ≡ t → pick w (rest_of (closed L beginning text) ++ drop (length (rest_of (closed L beginning text))) o) o ≡ pick w (key_of L (replaced text) ++ drop (length (key_of L (replaced text))) o) o
+    same true g = ap (λ (l : List ℕ). pick w (l ++ drop (length l) o) o) (all_key L text k.well (k.whole g))
     same false g = rw g refl

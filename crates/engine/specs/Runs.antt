@@ -1,8 +1,7 @@
 -- What is asked for and promised where a run of bytes is fed to the machine, with CR LF read as LF.
 use Rattle.std.specs.Prelude.{ℕ, ◌+◌, ◌≤◌, ◌≡◌, Bool, true, List, length}
 use Rattle.text.specs.Chars.{chars, encode}
-use Rattle.ranges.specs.Rules.{Good}
-use Rattle.token.specs.Lists.{Lists, lent}
+use Rattle.token.specs.Lists.{Lists}
 use Rattle.line_ends.specs.LineEnds.{replaced}
 use Rattle.machine.specs.declared.Mode.{Mode}
 use Rattle.machine.specs.declared.State.{State}
@@ -20,15 +19,12 @@ abbrev pub fed_by : Lists → State → (text : List ℕ) → stream.Fed State
 fed_by L s text = feed L s (replaced (chars text))
 
 -- the lists are good, the places fit 32 bits, and there is room for what is written
-pub record Feeding (writing : Bool) (s : State) (text starts continues emoji out : List ℕ) : Type 0 where
-  pub starts_good : Good starts
-  pub continues_good : Good continues
-  pub emoji_good : Good emoji
+pub record Feeding (writing : Bool) (L : Lists) (s : State) (text out : List ℕ) : Type 0 where
   pub shallow : deepest s.mode ≤ s.at
   pub short : s.at + length text ≤ 4294967295
-  pub room : writing ≡ true → length (encode (fed_by (lent starts continues emoji) s text).out) ≤ length out
+  pub room : writing ≡ true → length (encode (fed_by L s text).out) ≤ length out
 
 -- A RUN WAS FED: what the machine writes of it is laid from the buffer's beginning on, and the state is the machine's
 pub record Fed (writing : Bool) (L : Lists) (s : State) (text out after : List ℕ) (r : Ran) : Type 0 where
   pub laid : Laid writing (encode (fed_by L s text).out) out 0 after r.n
-  pub state : (fed_by L s text).state ≡ state r.mode r.from r.at
+  pub state : (fed_by L s text).state ≡ r.state

@@ -4,17 +4,17 @@
 
 ghost use Rattle.std.specs.Prelude.{◌≡◌, length};
 ghost use Rattle.basics.specs.Choice.{pick};
-ghost use Rattle.token.specs.Lists.{lent};
 ghost use Rattle.machine.specs.Machine.{step};
 ghost use Rattle.turns.specs.Shown.{before_out};
 ghost use Rattle.engine.specs.Laid.{Laid, Room};
 ghost use Rattle.engine.specs.Chars.{step_bytes, Laying, CharFeeding, CharFed};
-ghost use Rattle.engine.specs.Runs.{state, Feeding, Fed};
+ghost use Rattle.engine.specs.Runs.{Feeding, Fed};
 ghost use Rattle.engine.specs.Ends.{Ends};
 ghost use Rattle.engine.specs.Closes.{Closing, Closed};
 ghost use Rattle.engine.specs.Wholes.{KeyReady, KeyMade};
 
-use machine::Mode;
+use lists::Lists;
+use machine::{Mode, State};
 use text::{CodePoint, Decoded};
 use turns::{Before, Shown};
 
@@ -95,16 +95,14 @@ fn feed_char(
     text: &[u8],
     i: usize,
     next: usize,
-    starts: &[u32],
-    continues: &[u32],
-    emoji: &[u32],
+    lists: &Lists,
     out: &mut [u8],
     n: usize,
 ) -> Kept
-    requires { CharFeeding writing mode from at c text.now i next starts.now continues.now emoji.now out.old n }
-    ensures { CharFed writing (step (lent starts.now continues.now emoji.now) from at mode c) out.old n out.new result }
+    requires { CharFeeding writing lists.now mode from at c text.now i next out.old n }
+    ensures { CharFed writing (step lists.now from at mode c) out.old n out.new result }
 {
-    let stepped = turns::step(mode, c, starts, continues, emoji);
+    let stepped = turns::step(mode, c, lists);
     let before = stepped.before;
     let shown = stepped.shown;
     let after = stepped.mode;
@@ -117,34 +115,22 @@ fn feed_char(
     }
 }
 
-// What a run leaves: the machine's state (its mode, the place of the token begun, the place reached), and the place past what was laid.
+// What a run leaves: the machine's state, and the place past what was laid.
 #[derive(Clone, Copy)]
 pub struct Ran {
-    pub mode: Mode,
-    pub from: usize,
-    pub at: usize,
+    pub state: State,
     pub n: usize,
 }
 
-// A RUN OF BYTES, from a state of the machine on: a mode, where the token begun stands, and the place reached. It ends at an ill-formed sequence, as its
-// characters do.
-pub fn run(
-    writing: bool,
-    start: Mode,
-    began: usize,
-    place: usize,
-    text: &[u8],
-    starts: &[u32],
-    continues: &[u32],
-    emoji: &[u32],
-    out: &mut [u8],
-) -> Ran
-    requires { Feeding writing (state start began place) text.now starts.now continues.now emoji.now out.old }
-    ensures { Fed writing (lent starts.now continues.now emoji.now) (state start began place) text.now out.old out.new result }
+// A RUN OF BYTES, from a state of the machine on. It ends at an ill-formed sequence, as its characters do. The parts of the state are locals of their own while
+// it runs.
+pub fn run(writing: bool, start: State, text: &[u8], lists: &Lists, out: &mut [u8]) -> Ran
+    requires { Feeding writing lists.now start text.now out.old }
+    ensures { Fed writing lists.now start text.now out.old out.new result }
 {
-    let mut mode = start;
-    let mut from = began;
-    let mut at = place;
+    let mut mode = start.mode;
+    let mut from = start.from;
+    let mut at = start.at;
     let mut i: usize = 0;
     let mut n: usize = 0;
     loop {
@@ -155,9 +141,7 @@ pub fn run(
                     i = next;
                     continue;
                 }
-                let kept = feed_char(
-                    writing, mode, from, at, c, text, i, next, starts, continues, emoji, out, n,
-                );
+                let kept = feed_char(writing, mode, from, at, c, text, i, next, lists, out, n);
                 mode = kept.mode;
                 from = kept.from;
                 n = kept.n;
@@ -168,27 +152,20 @@ pub fn run(
             Decoded::Ill(_) => break,
         }
     }
-    Ran { mode, from, at, n }
+    Ran {
+        state: State { mode, from, at },
+        n,
+    }
 }
 
-// What the end of a text does: what was held back is still to be written, or the token begun is broken.
-#[derive(Clone, Copy)]
-pub enum End {
-    Rest(Before),
-    Broken,
-}
-
-// THE END of a text: a token that has begun and is not ended is broken.
-pub fn end_of(mode: Mode) -> End
+// THE END of a text: what was held back and is still to be written; or nothing is, since the token that has begun is not ended, and so is broken.
+pub fn end_of(mode: Mode) -> Option<Before>
     ensures { Ends mode result }
 {
     match mode {
-        Mode::OneSlash { gap: _ } => End::Rest(Before::Slash),
-        Mode::TwoSlashes { gap } => {
-            let before = turns::newline_or(gap);
-            End::Rest(before)
-        }
-        Mode::ThreeSlashes { gap: _ } => End::Rest(Before::Slashes3),
+        Mode::OneSlash { gap: _ } => Some(Before::Slash),
+        Mode::TwoSlashes { gap } => Some(turns::newline_or(gap)),
+        Mode::ThreeSlashes { gap: _ } => Some(Before::Slashes3),
         Mode::SlashStar { gap: _ }
         | Mode::SlashStars { gap: _ }
         | Mode::Block {
@@ -207,58 +184,45 @@ pub fn end_of(mode: Mode) -> End
         | Mode::QuotesEscape
         | Mode::RawHashes { hashes: _ }
         | Mode::RawBody { hashes: _ }
-        | Mode::RawEnd { hashes: _, more: _ } => End::Broken,
-        _ => End::Rest(Before::Nothing),
+        | Mode::RawEnd { hashes: _, more: _ } => None,
+        _ => Some(Before::Nothing),
     }
 }
 
-// What a key needs: so many bytes, or that its first broken token is mended.
+// That a text has no key: its first broken token begins there.
 #[derive(Clone, Copy)]
-pub enum Need {
-    Bytes(usize),
-    Mending(usize),
+pub struct Broken {
+    pub start: usize,
 }
 
-// THE BYTES THAT ARE LEFT, from a state of the machine on, and then the end: what the rest of the key needs; where it is to be written, it is laid too.
+// THE BYTES THAT ARE LEFT, from a state of the machine on, and then the end: how many bytes the rest of the key takes; where it is to be written, it is laid too.
 pub fn close(
     writing: bool,
-    start: Mode,
-    began: usize,
-    place: usize,
+    start: State,
     text: &[u8],
-    starts: &[u32],
-    continues: &[u32],
-    emoji: &[u32],
+    lists: &Lists,
     out: &mut [u8],
-) -> Need
-    requires { Closing writing (state start began place) text.now starts.now continues.now emoji.now out.old }
-    ensures { Closed writing (lent starts.now continues.now emoji.now) (state start began place) text.now out.old out.new result }
+) -> Result<usize, Broken>
+    requires { Closing writing lists.now start text.now out.old }
+    ensures { Closed writing lists.now start text.now out.old out.new result }
 {
-    let ran = run(
-        writing, start, began, place, text, starts, continues, emoji, out,
-    );
-    let mode = ran.mode;
-    match end_of(mode) {
-        End::Broken => Need::Mending(ran.from),
-        End::Rest(before) => {
-            let bytes = lay_before(writing, before, out, ran.n);
-            Need::Bytes(bytes)
-        }
+    let ran = run(writing, start, text, lists, out);
+    let state = ran.state;
+    match end_of(state.mode) {
+        None => Err(Broken { start: state.from }),
+        Some(before) => Ok(lay_before(writing, before, out, ran.n)),
     }
 }
 
-// A WHOLE TEXT: what its key needs; where it is to be written, it is laid too.
-pub fn whole(
-    writing: bool,
-    text: &[u8],
-    starts: &[u32],
-    continues: &[u32],
-    emoji: &[u32],
-    out: &mut [u8],
-) -> Need
-    requires { KeyReady writing text.now starts.now continues.now emoji.now out.old }
-    ensures { KeyMade writing (lent starts.now continues.now emoji.now) text.now out.old out.new result }
+// A WHOLE TEXT: how many bytes its key takes; where it is to be written, it is laid too.
+pub fn whole(writing: bool, text: &[u8], lists: &Lists, out: &mut [u8]) -> Result<usize, Broken>
+    requires { KeyReady writing lists.now text.now out.old }
+    ensures { KeyMade writing lists.now text.now out.old out.new result }
 {
-    let begin = Mode::Start { gap: false };
-    close(writing, begin, 0, 0, text, starts, continues, emoji, out)
+    let begin = State {
+        mode: Mode::Start { gap: false },
+        from: 0,
+        at: 0,
+    };
+    close(writing, begin, text, lists, out)
 }

@@ -5,11 +5,11 @@ use Rattle.engine.proofs.close.Goals as goal
 pub run-ran-requires : goal.run-ran-requires
 run-ran-requires c = search close_feeds
 
-pub lay_before-bytes-requires : goal.lay_before-bytes-requires
-lay_before-bytes-requires c = search close_room
+pub lay_before-requires : goal.lay_before-requires
+lay_before-requires c = search close_room
 
-pub returns-in-Broken : goal.returns-in-Broken
-returns-in-Broken c = search close_broken
+pub returns-in-None : goal.returns-in-None
+returns-in-None c = search close_broken
 
-pub returns-in-Rest : goal.returns-in-Rest
-returns-in-Rest c = search close_rest
+pub returns-in-Some : goal.returns-in-Some
+returns-in-Some c = search close_rest
