@@ -10,7 +10,7 @@ ghost use Rattle.token.specs.Advance.{decided, stays};
 ghost use Rattle.cursor.specs.declared.Kinded.TheVariants as kinded;
 ghost use Rattle.cursor.specs.Cursors.{rest};
 ghost use Rattle.cursor.specs.Ran.{Ran, Begun};
-ghost use Rattle.advance.specs.Arms.{guards, Led, fence};
+ghost use Rattle.advance.specs.Arms.{guards, Symbolic, Led, fence};
 
 use cursor::{Cursor, Kinded, Lexed, Scanned};
 use lists::Lists;
@@ -68,7 +68,42 @@ fn other(text: &[u8], c: CodePoint, from: Cursor, lists: &Lists) -> Scanned
     only(TokenKind::Unknown, from)
 }
 
-// The decision over the first character c of a token, frontmatter off, in 000's order of arms; its guards come last.
+// The kind of token that c is alone, if it is a symbol. A hash is none here: it may be the prefix of a guarded string.
+fn symbol(c: CodePoint) -> Option<TokenKind>
+    ensures { Symbolic c result }
+{
+    let kind = match c {
+        0x3B => TokenKind::Semi,
+        0x2C => TokenKind::Comma,
+        0x2E => TokenKind::Dot,
+        0x28 => TokenKind::OpenParen,
+        0x29 => TokenKind::CloseParen,
+        0x7B => TokenKind::OpenBrace,
+        0x7D => TokenKind::CloseBrace,
+        0x5B => TokenKind::OpenBracket,
+        0x5D => TokenKind::CloseBracket,
+        0x40 => TokenKind::At,
+        0x7E => TokenKind::Tilde,
+        0x3F => TokenKind::Question,
+        0x3A => TokenKind::Colon,
+        0x24 => TokenKind::Dollar,
+        0x3D => TokenKind::Eq,
+        0x21 => TokenKind::Bang,
+        0x3C => TokenKind::Lt,
+        0x3E => TokenKind::Gt,
+        0x2D => TokenKind::Minus,
+        0x26 => TokenKind::And,
+        0x7C => TokenKind::Or,
+        0x2B => TokenKind::Plus,
+        0x2A => TokenKind::Star,
+        0x5E => TokenKind::Caret,
+        0x25 => TokenKind::Percent,
+        _ => return None,
+    };
+    Some(kind)
+}
+
+// The decision over the first character c of a token, frontmatter off, in 000's order of arms; the symbols and its guards come last.
 fn plain(text: &[u8], c: CodePoint, from: Cursor, lists: &Lists) -> Scanned
     ensures { Begun (Advance.plain lists.now c) text.now from result }
 {
@@ -80,34 +115,12 @@ fn plain(text: &[u8], c: CodePoint, from: Cursor, lists: &Lists) -> Scanned
         0x63 => prefixed::after_c(text, from, Form::C, lists),
         0x30..=0x39 => literals::number_literal(text, from, c, lists),
         0x23 => after_hash(text, from),
-        0x3B => only(TokenKind::Semi, from),
-        0x2C => only(TokenKind::Comma, from),
-        0x2E => only(TokenKind::Dot, from),
-        0x28 => only(TokenKind::OpenParen, from),
-        0x29 => only(TokenKind::CloseParen, from),
-        0x7B => only(TokenKind::OpenBrace, from),
-        0x7D => only(TokenKind::CloseBrace, from),
-        0x5B => only(TokenKind::OpenBracket, from),
-        0x5D => only(TokenKind::CloseBracket, from),
-        0x40 => only(TokenKind::At, from),
-        0x7E => only(TokenKind::Tilde, from),
-        0x3F => only(TokenKind::Question, from),
-        0x3A => only(TokenKind::Colon, from),
-        0x24 => only(TokenKind::Dollar, from),
-        0x3D => only(TokenKind::Eq, from),
-        0x21 => only(TokenKind::Bang, from),
-        0x3C => only(TokenKind::Lt, from),
-        0x3E => only(TokenKind::Gt, from),
-        0x2D => only(TokenKind::Minus, from),
-        0x26 => only(TokenKind::And, from),
-        0x7C => only(TokenKind::Or, from),
-        0x2B => only(TokenKind::Plus, from),
-        0x2A => only(TokenKind::Star, from),
-        0x5E => only(TokenKind::Caret, from),
-        0x25 => only(TokenKind::Percent, from),
         0x27 => prefixed::lifetime_or_char(text, from, lists),
         0x22 => literals::double_literal(text, from, Form::Plain, lists),
-        _ => other(text, c, from, lists),
+        _ => match symbol(c) {
+            Some(kind) => only(kind, from),
+            None => other(text, c, from, lists),
+        },
     }
 }
 
