@@ -23,14 +23,8 @@ char_at {s} {c} e h = here (subst (λ (p : Option (ℕ × Cursor)). Seen s c p) 
 pub end_at : {s : List ℕ} {c : Cursor} {r : Option (ℕ × Cursor)} → r ≡ None → Seen s c r → rest s c ≡ []
 end_at {s} {c} e h = gone (subst (λ (p : Option (ℕ × Cursor)). Seen s c p) e h)
 
--- the peeks, and the move past one character
+-- the move past one character
 module _ {s : List ℕ} {b : Cursor} {r : Option (ℕ × Cursor)} where
-  pub first_there : {x : ℕ} {d : Cursor} → r ≡ Some (x, d) → Seen s b r → x ≡ get_or (rest s b) 0 0
-  first_there e h = rw (char_at e h).chars
-
-  pub first_gone : r ≡ None → Seen s b r → 0 ≡ get_or (rest s b) 0 0
-  first_gone e h = rw (end_at e h)
-
   pub bump_there : {x : ℕ} {d : Cursor} → r ≡ Some (x, d) → Seen s b r → Moved s b d (drop 1 (rest s b))
   bump_there e h = arrive (over (char_at e h)) (rw (char_at e h).chars)
 

@@ -1,13 +1,12 @@
 -- The search for the first token that is not trivia, in the facts of the code.
 use Prim.Native.Nat.{ℕ, ◌<◌}
-use mathlib.Core.Path.{◌≡◌, refl, sym, ap, ◌∙◌}
+use mathlib.Core.Path.{◌≡◌, refl, sym, ap, subst, ◌∙◌}
 use mathlib.Core.Bool.{Bool, true, false, not}
 use mathlib.Core.List.{List, []}
 use lib.ListN.{length}
 use native.Mathlib.Omega.{arith}
 use borrow.Author.Tests.{not-true, not-false}
 use Rattle.basics.specs.Choice.{pick}
-use Rattle.ranges.specs.Rules.{Good, flaw_from}
 use Rattle.eaters.specs.Eat.{choose}
 use Rattle.token.specs.declared.LiteralKind.{LiteralKind}
 use Rattle.token.specs.declared.TokenKind.{TokenKind}
@@ -17,25 +16,21 @@ use Rattle.cursor.specs.declared.Cursor.{Cursor}
 use Rattle.cursor.specs.declared.Kinded.{Kinded}
 use Rattle.cursor.specs.declared.Kinded.TheVariants.{Plain, Literal}
 use Rattle.cursor.specs.declared.Scanned.{Scanned}
-use Rattle.cursor.specs.declared.Step.{Step}
-use Rattle.cursor.specs.declared.Step.TheVariants.{Got, Over}
+use Rattle.std.specs.Prelude.{Option, None, Some}
 use Rattle.cursor.specs.Cursors.{rest, Seen}
 use Rattle.cursor.specs.Moved.{no_more, left_of}
 use Rattle.cursor.specs.Ran.{kind_from, Begun}
 use Rattle.cursor.proofs.Moves.{char_at, end_at}
-use Rattle.token.specs.Lists.{none}
+use Rattle.token.specs.Lists.{Lists, none}
 use Rattle.token.specs.Shebang.{is_bracket, bracketed}
 use Rattle.shebang.proofs.First.{bracket_none, bracket_step}
 
--- empty lists are good
-pub good_empty : Good []
-unfolding flaw_from
-good_empty = record { pairs = refl }
-
 -- frontmatter is off
-pub off_plain : (c : ℕ) {s : List ℕ} {a : Cursor} {r : Scanned} → Begun (decided none false c) s a r → Begun (plain none c) s a r
+pub off_plain : (c : ℕ) {L : Lists} {s : List ℕ} {a : Cursor} {r : Scanned} → L ≡ none → Begun (decided L false c) s a r → Begun (plain none c) s a r
 unfolding choose
-off_plain c b = record { past = b.past; ran = b.ran }
+off_plain c {L} {s} {a} {r} e b =
+    let g : Begun (decided none false c) s a r = subst (λ (M : Lists). Begun (decided M false c) s a r) e b in
+    record { past = g.past; ran = g.ran }
 
 -- the search began at a; it is at b, and the answer from here is the answer from there
 pub record Sought (s : List ℕ) (a b : Cursor) : Type 0 where
@@ -44,11 +39,11 @@ pub record Sought (s : List ℕ) (a b : Cursor) : Type 0 where
 pub sought_start : (s : List ℕ) (a : Cursor) → Sought s a a
 sought_start s a = record { same = refl }
 
-pub sought_over : {s : List ℕ} {a b : Cursor} {r : Step} → r ≡ Over → Seen s b r → Sought s a b → false ≡ bracketed none (rest s a)
+pub sought_over : {s : List ℕ} {a b : Cursor} {r : Option (ℕ × Cursor)} → r ≡ None → Seen s b r → Sought s a b → false ≡ bracketed none (rest s a)
 sought_over x h i = sym (bracket_none none) ∙ ap (bracketed none) (sym (end_at x h)) ∙ i.same
 
 -- a token of the code: it leaves fewer characters
-module _ {s : List ℕ} {b n : Cursor} {c : ℕ} {r : Step} (x : r ≡ Got c n) (h : Seen s b r) {t : Scanned} (g : Begun (plain none c) s n t) where
+module _ {s : List ℕ} {b n : Cursor} {c : ℕ} {r : Option (ℕ × Cursor)} (x : r ≡ Some (c, n)) (h : Seen s b r) {t : Scanned} (g : Begun (plain none c) s n t) where
   pub token_less : length (rest s t.next) < length (rest s b)
   token_less = omega (arith, ap length (char_at x h).chars, no_more g.ran.moved, ap length (left_of g.ran.moved))
 

@@ -1,4 +1,3 @@
-mod Bracket
 mod Lines
 mod First
 mod Follows

@@ -8,8 +8,7 @@ use borrow.Author.Tests.{ne_eqb}
 use Rattle.text.specs.Chars.{width}
 use Rattle.token.specs.Shebang.{line_bytes}
 use Rattle.cursor.specs.declared.Cursor.{Cursor}
-use Rattle.cursor.specs.declared.Step.{Step}
-use Rattle.cursor.specs.declared.Step.TheVariants.{Got, Over}
+use Rattle.std.specs.Prelude.{Option, None, Some}
 use Rattle.cursor.specs.Cursors.{rest, Seen}
 use Rattle.cursor.proofs.Moves.{char_at, end_at}
 
@@ -41,14 +40,14 @@ pub record Lined (s : List ℕ) (a b : Cursor) : Type 0 where
 pub lined_start : (s : List ℕ) (a : Cursor) → Lined s a a
 lined_start s a = record { same = refl }
 
-module _ {s : List ℕ} {a b : Cursor} {r : Step} (h : Seen s b r) (i : Lined s a b) where
+module _ {s : List ℕ} {a b : Cursor} {r : Option (ℕ × Cursor)} (h : Seen s b r) (i : Lined s a b) where
   stop : line_bytes (rest s b) ≡ 0 → b.at ≡ a.at + line_bytes (rest s a)
   stop e = omega (arith, i.same, e)
 
-  pub line_over : r ≡ Over → b.at ≡ a.at + line_bytes (rest s a)
+  pub line_over : r ≡ None → b.at ≡ a.at + line_bytes (rest s a)
   line_over x = stop (ap line_bytes (end_at x h) ∙ none)
 
-  module _ {c : ℕ} {n : Cursor} (x : r ≡ Got c n) where
+  module _ {c : ℕ} {n : Cursor} (x : r ≡ Some (c, n)) where
     stop_at : line_bytes (c ∷ rest s n) ≡ 0 → b.at ≡ a.at + line_bytes (rest s a)
     stop_at e = stop (ap line_bytes (char_at x h).chars ∙ e)
 

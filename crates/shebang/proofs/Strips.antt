@@ -7,12 +7,7 @@ use lib.ListN.{get_or, drop}
 use native.Mathlib.Omega.{arith}
 use borrow.Author.Tests.{ne_eqb}
 use Rattle.basics.specs.Choice.{pick}
-use Rattle.refusal.specs.declared.Bad.{Bad}
-use Rattle.refusal.specs.declared.Verdict.{Verdict}
-use Rattle.refusal.specs.declared.Verdict.TheVariants as verdict
-use Rattle.refusal.proofs.Handing.{refused_in, fine_in}
 use Rattle.text.specs.Chars.{chars, width}
-use Rattle.text.specs.Verdicts.{text_verdict}
 use Rattle.eaters.specs.Find.{at, nowhere}
 use Rattle.token.specs.Lists.{Lists, none}
 use Rattle.token.specs.Shebang.{line_bytes, shebang, bracketed}
@@ -22,9 +17,8 @@ use Rattle.cursor.specs.Moved.{Moved}
 use Rattle.cursor.proofs.Steps.{rest_at}
 use Rattle.cursor.proofs.Moves.{bumped}
 use Rattle.cursor.proofs.Bytes.{bump_bytes}
-use Rattle.shebang.specs.declared.ShebangAnswer.{ShebangAnswer}
-use Rattle.shebang.specs.declared.ShebangAnswer.TheVariants.{Ends, Absent, Refused}
-use Rattle.shebang.specs.Answers.{shebang_at, ShebangEnds, Stripped}
+use Rattle.std.specs.Prelude.{None, Some}
+use Rattle.shebang.specs.Answers.{shebang_at, ShebangEnds}
 use Rattle.shebang.proofs.AnyLists.{any_bracket}
 
 -- the clauses of the rule
@@ -48,14 +42,14 @@ module _ (s : List ℕ) {a : Cursor} (z : a.at ≡ 0) {c : ℕ} (e : c ≡ get_o
   whole : chars s ≡ rest s a
   whole = sym (rest_at s a z)
 
-  pub absent_hash : (c ≡ 0x23 → ⊥) → ShebangEnds s Absent
+  pub absent_hash : (c ≡ 0x23 → ⊥) → ShebangEnds s None
   absent_hash n = record { place = λ L. ap shebang_at (sym (ap (shebang L) whole ∙ no_hash L (rest s a) (λ k. n (e ∙ k)))) }
 
   module _ (h : c ≡ 0x23) {b : Cursor} (m : Moved s a b (drop 1 (rest s a))) {d : ℕ} (f : d ≡ get_or (rest s b) 0 0) where
     hash : chars s ≡ 0x23 ∷ rest s b
     hash = whole ∙ bumped e (omega arith) m ∙ ap (λ (k : ℕ). k ∷ rest s b) h
 
-    pub absent_mark : (d ≡ 0x21 → ⊥) → ShebangEnds s Absent
+    pub absent_mark : (d ≡ 0x21 → ⊥) → ShebangEnds s None
     absent_mark n = record { place = λ L. ap shebang_at (sym (ap (shebang L) hash ∙ no_mark L (rest s b) (λ k. n (f ∙ k)))) }
 
     module _ (g : d ≡ 0x21) {o : Cursor} (w : Moved s b o (drop 1 (rest s b))) {u : Bool} (q : u ≡ bracketed none (rest s o)) where
@@ -65,7 +59,7 @@ module _ (s : List ℕ) {a : Cursor} (z : a.at ≡ 0) {c : ℕ} (e : c ≡ get_o
           ∙ marked L (rest s o)
           ∙ ap (λ (t : Bool). pick t nowhere (at (2 + line_bytes (rest s o)))) (sym q)
 
-      pub absent_bracket : u ≡ true → ShebangEnds s Absent
+      pub absent_bracket : u ≡ true → ShebangEnds s None
       absent_bracket t = record { place = λ L. ap shebang_at (sym (rw t at (by_mark L))) }
 
       two : o.at ≡ 2
@@ -75,13 +69,5 @@ module _ (s : List ℕ) {a : Cursor} (z : a.at ≡ 0) {c : ℕ} (e : c ≡ get_o
           let j : width d ≡ 1 = ap width g in
           omega (arith, z, bump_bytes e (omega arith) m, bump_bytes f (omega arith) w, i, j)
 
-      pub ends_line : {p : Cursor} {n : ℕ} → u ≡ false → p.at ≡ o.at + line_bytes (rest s o) → n ≡ p.at → ShebangEnds s (Ends n)
+      pub ends_line : {p : Cursor} {n : ℕ} → u ≡ false → p.at ≡ o.at + line_bytes (rest s o) → n ≡ p.at → ShebangEnds s (Some n)
       ends_line t l y = record { place = λ L. ap shebang_at (ap at (y ∙ l ∙ ap (λ (k : ℕ). k + line_bytes (rest s o)) two) ∙ sym (rw t at (by_mark L))) }
-
--- the call, by what the check of the text says
-module _ (s : List ℕ) {v : Verdict} (e : v ≡ text_verdict s) where
-  pub stripped : {x : ShebangAnswer} → v ≡ verdict.Fine → ShebangEnds s x → Stripped s x
-  stripped k g = record { answer = λ L. fine_in Refused e k (g.place L) }
-
-  pub refused : {bad : Bad} → v ≡ verdict.Refused bad → Stripped s (Refused bad)
-  refused k = record { answer = λ L. refused_in Refused e _ k }

@@ -4,11 +4,11 @@ use Rattle.shebang.proofs.bracket_follows.Goals as goal
 pub loop-c-init : goal.loop-c-init
 loop-c-init c = sought_start _ _
 
-pub returns-in_default : goal.returns-in_default
-returns-in_default c = search sought_over
+pub returns : goal.returns
+returns c = search sought_over
 
-pub returns-in_default-kinded : goal.returns-in_default-kinded
-returns-in_default-kinded c = search literal_stop
+pub returns-in_default-kind : goal.returns-in_default-kind
+returns-in_default-kind c = search literal_stop
 
 pub returns-then-not-is_trivia : goal.returns-then-not-is_trivia
 returns-then-not-is_trivia c = search other_stop
