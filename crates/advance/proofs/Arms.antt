@@ -50,8 +50,9 @@ begun m r = record { past = tt; ran = r }
 
 -- AFTER A HASH
 module _ {s : List ℕ} {a : Cursor} {c : ℕ} {t : Bool} (e : c ≡ get_or (rest s a) 0 0) (g : t ≡ hash_or_quote c) where
-  pub hash_mark : {b : Cursor} → t ≡ true → Moved s a b (drop 1 (rest s a)) → Begun pound s a (record { kind = Plain kind.GuardedStrPrefix; next = b })
-  hash_mark {b} h m = begun pound (ran_take (give kind.GuardedStrPrefix) (give kind.Pound) hash_or_quote e (sym g ∙ h) m (ran_give kind.GuardedStrPrefix s b))
+  pub hash_mark : {b : Cursor} {r : Scanned} → t ≡ true → Moved s a b (drop 1 (rest s a)) → r ≡ handed kind.GuardedStrPrefix b → Begun pound s a r
+  hash_mark {b} h m q =
+      subst (Begun pound s a) (sym q) (begun pound (ran_take (give kind.GuardedStrPrefix) (give kind.Pound) hash_or_quote e (sym g ∙ h) m (ran_give kind.GuardedStrPrefix s b)))
 
   pub hash_alone : {r : Scanned} → t ≡ false → r ≡ record { kind = Plain kind.Pound; next = a } → Begun pound s a r
   hash_alone h q = subst (Begun pound s a) (sym q) (begun pound (ran_no _ (give kind.Pound) hash_or_quote e (sym g ∙ h) (ran_give kind.Pound s a)))

@@ -28,7 +28,7 @@ fn whole(lexed: Lexed) -> Scanned
     }
 }
 
-// A token of the one character before the cursor.
+// A token that is not a literal and ends at the cursor.
 fn only(kind: TokenKind, from: Cursor) -> Scanned
     ensures { result ≡ record { kind = kinded.Plain kind; next = from } }
 {
@@ -42,12 +42,8 @@ fn only(kind: TokenKind, from: Cursor) -> Scanned
 fn after_hash(text: &[u8], from: Cursor) -> Scanned
     ensures { Begun pound text.now from result }
 {
-    let c = from.first(text);
-    if token::is_hash_or_quote(c) {
-        return Scanned {
-            kind: Kinded::Plain(TokenKind::GuardedStrPrefix),
-            next: from.bump(text),
-        };
+    if token::is_hash_or_quote(from.first(text)) {
+        return only(TokenKind::GuardedStrPrefix, from.bump(text));
     }
     only(TokenKind::Pound, from)
 }
@@ -131,6 +127,7 @@ struct Blanks {
     last: CodePoint,
 }
 
+// The run is no `eat_while`: that says nothing of the characters that it took.
 fn eat_leading(text: &[u8], c: CodePoint, from: Cursor) -> Blanks
     ensures { Led c text.now from result }
 {

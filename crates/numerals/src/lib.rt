@@ -37,6 +37,7 @@ fn is_digit_of(c: CodePoint, base: Base) -> bool
 }
 
 // Past digits and underscores (000's eat_decimal_digits and eat_hexadecimal_digits). An underscore is not a digit.
+// The run is no `eat_while`: that says nothing of the characters that it took.
 fn eat_digits(text: &[u8], from: Cursor, base: Base) -> Digits
     ensures { CountedDigits (digits_of base) (digit_of base) text.now from result }
 {

@@ -22,6 +22,7 @@ use token::TokenKind;
 pub fn lifetime_or_char(text: &[u8], from: Cursor, lists: &Lists) -> Scanned
     ensures { Begun (lifetime_or_char lists.now) text.now from result }
 {
+    // A match: of a closure for `unwrap_or_else` too little is known here.
     match words::lifetime(text, from, lists) {
         Some(scanned) => scanned,
         None => literals::single_literal(text, from, false, lists),
