@@ -15,9 +15,7 @@ use std::io::Write;
 fn say_numbers<W: Write>(to: &mut W, n: Numbers) -> io::Result<()>
     ensures { OnOk result (Appends (W.contents to.old) (W.contents to.new) (refused_numbers n)) }
 {
-    let number = n.number;
-    let beside = n.beside;
-    write!(to, "refused\t{number}\t{beside}")
+    write!(to, "refused\t{}\t{}", n.number, n.beside)
 }
 
 // The same, as a line.
@@ -39,12 +37,9 @@ pub fn say_bad<W: Write>(to: &mut W, bad: Bad) -> io::Result<()>
 pub fn say_why<W: Write>(to: &mut W, bad: Bad) -> io::Result<()>
     ensures { OnOk result (Appends (W.contents to.old) (W.contents to.new) (why_line bad)) }
 {
-    let is_ill_formed = matches!(&bad, Bad::NotUtf8(..));
-    let n = refusal::bad_numbers(bad);
-    let cause = n.second;
-    say_numbers(to, n)?;
-    if is_ill_formed {
-        write!(to, "\t{cause}")?;
+    say_numbers(to, refusal::bad_numbers(bad))?;
+    if let Bad::NotUtf8(_, cause) = bad {
+        write!(to, "\t{}", refusal::cause_number(cause))?;
     }
     to.write_all(b"\n")
 }
@@ -54,8 +49,5 @@ pub fn say_why<W: Write>(to: &mut W, bad: Bad) -> io::Result<()>
 pub fn say_lists<W: Write>(to: &mut W, n: Numbers) -> io::Result<()>
     ensures { OnOk result (Appends (W.contents to.old) (W.contents to.new) (lists_line n)) }
 {
-    let number = n.number;
-    let beside = n.beside;
-    let second = n.second;
-    writeln!(to, "lists\t{number}\t{beside}\t{second}")
+    writeln!(to, "lists\t{}\t{}\t{}", n.number, n.beside, n.second)
 }
