@@ -9,7 +9,7 @@ use Rattle.lexer.specs.Taken.{Taken}
 use Rattle.lexer.proofs.Alike.{same_verdict}
 use Rattle.line_ends.specs.LineEnds.{replaced}
 use Rattle.canon.proofs.Alike.{same_broken, same_key}
-use Rattle.key.specs.declared.KeyAnswer.{KeyAnswer}
+use Rattle.key.specs.Answers.{KeyAnswer}
 use Rattle.key.specs.Answers.{key_answer, Keying}
 use Rattle.key.proofs.Answers.{one_answer, one_buffer}
 

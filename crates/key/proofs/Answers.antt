@@ -6,7 +6,7 @@ use Rattle.refusal.specs.declared.Numbers.{Numbers}
 use Rattle.token.specs.Lists.{Lists}
 use Rattle.line_ends.specs.LineEnds.{replaced}
 use Rattle.canon.specs.Key.{key_of}
-use Rattle.key.specs.declared.KeyAnswer.{KeyAnswer}
+use Rattle.key.specs.Answers.{KeyAnswer}
 use Rattle.key.specs.Answers.{buffer_after, Keying}
 use Rattle.key.proofs.key_numbers.Reads as key_numbers
 

@@ -1,4 +1,5 @@
 -- What an answer of success says: of the text, the lists and the room; and a key that was written fits into the buffer.
+use Rattle.std.specs.Prelude.{Ok, Err}
 use Prim.Native.Nat.{ℕ, ◌≤◌}
 use mathlib.Core.Path.{◌≡◌, refl, sym, ap, ◌∙◌}
 use mathlib.Core.Bool.{Bool, true, false, true≢false}
@@ -10,8 +11,7 @@ use borrow.Author.Tests.{leb-true}
 use native.Mathlib.Omega.{arith}
 use Rattle.basics.specs.Choice.{pick}
 use Rattle.eaters.specs.Find.{Place, at, nowhere}
-use Rattle.refusal.specs.declared.Verdict.{Verdict}
-use Rattle.refusal.specs.declared.Verdict.TheVariants as verdict
+use Rattle.refusal.specs.Verdict.{Verdict, fine}
 use Rattle.refusal.specs.Order.{refused_or}
 use Rattle.token.specs.Lists.{Lists}
 use Rattle.lexer.specs.Answers.{token_verdict}
@@ -19,13 +19,14 @@ use Rattle.line_ends.specs.LineEnds.{replaced, double_return}
 use Rattle.marks.specs.Marks.{hidden_mark}
 use Rattle.canon.specs.Keyable.{broken_at, Keyable}
 use Rattle.canon.specs.Key.{key_of}
-use Rattle.key.specs.declared.KeyAnswer.{KeyAnswer}
-use Rattle.key.specs.declared.KeyAnswer.TheVariants.{Keyed, DoubleReturn, HiddenMark, Broken, Room, Refused}
+use Rattle.key.specs.Answers.{KeyAnswer}
+use Rattle.key.specs.declared.KeyRefusal.TheVariants.{Room}
+use Rattle.key.specs.Answers.{shared}
 use Rattle.key.specs.Answers.{unbroken, unmarked, undoubled, key_answer, Keying}
 
 -- what an answer of success says of the text, the lists and the room
 pub record Done (limit : ℕ) (s : List ℕ) (L : Lists) (room n : ℕ) : Type 0 where
-  pub fine : token_verdict limit s L ≡ verdict.Fine
+  pub fine : token_verdict limit s L ≡ fine
   pub undoubled : double_return s ≡ nowhere
   pub unmarked : hidden_mark s ≡ nowhere
   pub keyable : Keyable L (replaced s)
@@ -33,38 +34,30 @@ pub record Done (limit : ℕ) (s : List ℕ) (L : Lists) (room n : ℕ) : Type 0
   pub fits : n ≤ room
 
 abbrev is_keyed : KeyAnswer → Bool
-is_keyed (Keyed n) = true
-is_keyed (DoubleReturn place) = false
-is_keyed (HiddenMark place) = false
-is_keyed (Broken start) = false
-is_keyed (Room n) = false
-is_keyed (Refused bad) = false
+is_keyed (Ok n) = true
+is_keyed (Err refusal) = false
 
 abbrev bytes_in : KeyAnswer → ℕ
-bytes_in (Keyed n) = n
-bytes_in (DoubleReturn place) = 0
-bytes_in (HiddenMark place) = 0
-bytes_in (Broken start) = 0
-bytes_in (Room n) = 0
-bytes_in (Refused bad) = 0
+bytes_in (Ok n) = n
+bytes_in (Err refusal) = 0
 
 module _ {limit : ℕ} {s : List ℕ} {L : Lists} {room n : ℕ} where
   by_cases : (v : Verdict) (d m p : Place) (t : Bool) → token_verdict limit s L ≡ v → double_return s ≡ d → hidden_mark s ≡ m → broken_at L (replaced s) ≡ p → leb (length (key_of L (replaced s))) room ≡ t
-      → Keyed n ≡ refused_or Refused v (undoubled d (unmarked m (unbroken p (pick t (Keyed (length (key_of L (replaced s)))) (Room (length (key_of L (replaced s)))))))) → Done limit s L room n
-  by_cases verdict.Fine nowhere nowhere nowhere true f d m p q e =
+      → Ok n ≡ refused_or shared v (undoubled d (unmarked m (unbroken p (pick t (Ok (length (key_of L (replaced s)))) (Err (Room (length (key_of L (replaced s))))))))) → Done limit s L room n
+  by_cases (Ok tt) nowhere nowhere nowhere true f d m p q e =
       let k : n ≡ length (key_of L (replaced s)) = ap bytes_in e in
       record { fine = f; undoubled = d; unmarked = m; keyable = p; long = k; fits = omega (arith, k, leb-true (length (key_of L (replaced s))) room q) }
-  by_cases verdict.Fine nowhere nowhere nowhere false f d m p q e = absurd (true≢false (ap is_keyed e))
-  by_cases verdict.Fine nowhere nowhere (at start) t f d m p q e = absurd (true≢false (ap is_keyed e))
-  by_cases verdict.Fine nowhere (at place) p t f d m g q e = absurd (true≢false (ap is_keyed e))
-  by_cases verdict.Fine (at place) m p t f d h g q e = absurd (true≢false (ap is_keyed e))
-  by_cases (verdict.Refused b) d m p t f h i g q e = absurd (true≢false (ap is_keyed e))
+  by_cases (Ok tt) nowhere nowhere nowhere false f d m p q e = absurd (true≢false (ap is_keyed e))
+  by_cases (Ok tt) nowhere nowhere (at start) t f d m p q e = absurd (true≢false (ap is_keyed e))
+  by_cases (Ok tt) nowhere (at place) p t f d m g q e = absurd (true≢false (ap is_keyed e))
+  by_cases (Ok tt) (at place) m p t f d h g q e = absurd (true≢false (ap is_keyed e))
+  by_cases (Err b) d m p t f h i g q e = absurd (true≢false (ap is_keyed e))
 
-  pub done : Keyed n ≡ key_answer limit s L room → Done limit s L room n
+  pub done : Ok n ≡ key_answer limit s L room → Done limit s L room n
   done = by_cases (token_verdict limit s L) (double_return s) (hidden_mark s) (broken_at L (replaced s)) (leb (length (key_of L (replaced s))) room) refl refl refl refl refl
 
 -- A KEY THAT WAS WRITTEN fits into the buffer, and its bytes are a part of it
-module _ {limit : ℕ} {s : List ℕ} {L : Lists} {before after : List ℕ} {r : KeyAnswer} {n : ℕ} (k : Keying limit s L before after r) (e : r ≡ Keyed n) (kept : length after ≡ length before) where
+module _ {limit : ℕ} {s : List ℕ} {L : Lists} {before after : List ℕ} {r : KeyAnswer} {n : ℕ} (k : Keying limit s L before after r) (e : r ≡ Ok n) (kept : length after ≡ length before) where
   pub key_fits : n ≤ length after
   key_fits =
       let d : Done limit s L (length before) n = done (sym e ∙ k.answer) in

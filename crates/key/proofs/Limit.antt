@@ -1,7 +1,7 @@
 -- THE PROMISE OF THE KEY CALL, with the most pairs of a list as the number that it is: the laws of `Keying` are laws of the call.
 use Rattle.ranges.proofs.Limit.{limit}
 use Rattle.token.specs.Lists.{lent}
-use Rattle.key.specs.declared.KeyAnswer.{KeyAnswer}
+use Rattle.key.specs.Answers.{KeyAnswer}
 use Rattle.key.specs.Answers.{Keying}
 use Rattle.key.proofs.key.Reads as key
 
