@@ -9,6 +9,7 @@ use machine::Mode;
 use text::CodePoint;
 
 // What a character does to the token before it: it belongs to it and is written; it belongs to it, and nothing is written; or the token ended before it, and whether that was trivia.
+// Three answers, each with what it holds: no Option and no Result says them.
 #[derive(Clone, Copy)]
 pub enum Goes {
     Takes(Mode),

@@ -18,7 +18,8 @@ use Rattle.machine.specs.declared.Mode.TheVariants.{Start, OneSlash, TwoSlashes,
 use Rattle.machine.specs.declared.Last.{Last}
 use Rattle.machine.specs.declared.Last.TheVariants.{PlainChar, ASlash, AStar}
 
--- what a text comes to: the characters of its key, or the place of its first broken token
+-- what a text comes to: the characters of its key, or the place of its first broken token. A type of its own, and not the code's Result: the theorems of the key
+-- speak of it (proofs/Cut: `whole_text`, `one_shot_lem`), and no function of this crate gives it.
 pub data Result : Type 0 where
   ok : (key : List ℕ) → Result
   bad : (place : ℕ) → Result

@@ -14,7 +14,7 @@ use lists::Lists;
 use machine::{Last, Mode};
 use text::CodePoint;
 
-// What was held back and is written before it.
+// What was held back and is written before it: seven runs of characters, told by name, as bytes would need room.
 #[derive(Clone, Copy)]
 pub enum Before {
     Nothing,
@@ -33,7 +33,7 @@ pub struct Turn {
     pub goes: Goes,
 }
 
-// What a character does where a token begins: it is written; nothing is; or one newline.
+// What a character does where a token begins: it is written; nothing is; or one newline. Three cases with a mode each, which no Option says.
 #[derive(Clone, Copy)]
 pub enum First {
     Writes(Mode),
@@ -41,7 +41,7 @@ pub enum First {
     Blank(Mode),
 }
 
-// What is written for the character itself: it, one newline in place of a run of trivia, or nothing.
+// What is written for the character itself: it, one newline in place of a run of trivia, or nothing. With an Option of two cases `match` would be no plainer.
 #[derive(Clone, Copy)]
 pub enum Shown {
     Itself,
