@@ -118,7 +118,7 @@ pub record Front (mark : ℕ) (p t : List ℕ) : Type 0 where
 
 front_by : (mark c : ℕ) (p t : List ℕ) (b : Bool) → eqb mark c ≡ b → or b (is_in p mark) ≡ false → (is_in p mark ≡ false → Front mark p t) → Front mark (c ∷ p) t
 unfolding piece after parted
-front_by mark c p t true e h k = let z : ◌≡◌ {A = ℕ} 0 1 = cc in absurd (omega arith)
+front_by mark c p t true e h k = absurd (cc)
 front_by mark c p t false e h k =
     let f : Front mark p t = k h in
     let n : eqb c mark ≡ false = ne_eqb c mark (λ (x : c ≡ mark). eqb-false mark c e (sym x)) in
@@ -140,7 +140,7 @@ unmarked_append mark [] t e f = f
 unmarked_append mark (c ∷ s) t e f = by_test (eqb mark c) e (λ (g : is_in s mark ≡ false). unmarked_append mark s t g f)
   where
     by_test : (b : Bool) → or b (is_in s mark) ≡ false → (is_in s mark ≡ false → is_in (s ++ t) mark ≡ false) → or b (is_in (s ++ t) mark) ≡ false
-    by_test true g k = let z : ◌≡◌ {A = ℕ} 0 1 = cc in absurd (omega arith)
+    by_test true g k = absurd (cc)
     by_test false g k = k g
 
 -- THE PARTS MAKE UP THE TEXT: each piece with its mark, and the rest.

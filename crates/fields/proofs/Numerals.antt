@@ -198,8 +198,8 @@ module _ {base : ℕ} (b : Base base) where
     pub small : n ≤ most
 
   says_by : (most : ℕ) (s : List ℕ) {n : ℕ} → unpadded s ≡ true → (t : Bool) → and (all (is_digit base) s) (leb (value_from base 0 s) most) ≡ t → pick t (Some (value_from base 0 s)) None ≡ Some n → Says most s n
-  says_by most [] u t e q = let z : ◌≡◌ {A = ℕ} 0 1 = cc in absurd (omega arith)
-  says_by most (c ∷ s) u false e q = let z : ◌≡◌ {A = ℕ} 0 1 = cc in absurd (omega arith)
+  says_by most [] u t e q = absurd (cc)
+  says_by most (c ∷ s) u false e q = absurd (cc)
   says_by most (c ∷ s) {n} u true e q =
       let v : value_from base 0 (c ∷ s) ≡ n = cc in
       let w : or (eqb (suc (length s)) 1) (not (eqb c 48)) ≡ true = and_2 (leb 1 (suc (length s))) _ u in
@@ -214,7 +214,7 @@ module _ {base : ℕ} (b : Base base) where
     where
       by_pad : (t : Bool) → unpadded s ≡ t → pick t (valued_from base most 0 s) None ≡ Some n → Says most s n
       by_pad true e p = says_by most s e (and (all (is_digit base) s) (leb (value_from base 0 s) most)) refl p
-      by_pad false e p = let z : ◌≡◌ {A = ℕ} 0 1 = cc in absurd (omega arith)
+      by_pad false e p = absurd (cc)
 
 -- A NUMBER AS IT IS WRITTEN has no tab and no newline in it
 no_mark : (base most n mark : ℕ) → mark < 48 → is_in (lowest_digits base most n) mark ≡ false

@@ -56,7 +56,7 @@ digit_told base c {d} e = by_test (ltb (digit_of c) base) refl e
   where
     by_test : (t : Bool) → ltb (digit_of c) base ≡ t → Some d ≡ pick t (Some (digit_of c)) None → Digit base c d
     by_test true f e = let i : d ≡ digit_of c = cc in record { is = i; small = omega (arith, ltb-true (digit_of c) base f) }
-    by_test false f e = let z : ◌≡◌ {A = ℕ} 0 1 = cc in absurd (omega arith)
+    by_test false f e = absurd (cc)
 
 module _ {base most : ℕ} {s : List ℕ} {n i d : ℕ} (v : Valuing base most s n i) (h : i < length s) (told : Some d ≡ digit_in base (get_or s i 0)) where
   digit : Digit base (get_or s i 0) d

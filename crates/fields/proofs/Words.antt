@@ -5,7 +5,6 @@ use mathlib.Core.Bool.{Bool, true, false}
 use mathlib.Core.List.{List, [], ◌∷◌}
 use borrow.Author.Tests.{eq-eqb, eqb-true}
 use lib.Dec.{eqb}
-use native.Mathlib.Omega.{arith}
 use Rattle.basics.proofs.Choices.{and_1, and_2}
 use Rattle.fields.specs.Words.{same}
 
@@ -17,8 +16,8 @@ same_self (c ∷ s) = rw (eq-eqb c c refl, same_self s) refl
 pub same_true : (s t : List ℕ) → same s t ≡ true → s ≡ t
 unfolding same
 same_true [] [] e = refl
-same_true [] (d ∷ t) e = let z : ◌≡◌ {A = ℕ} 0 1 = cc in absurd (omega arith)
-same_true (c ∷ s) [] e = let z : ◌≡◌ {A = ℕ} 0 1 = cc in absurd (omega arith)
+same_true [] (d ∷ t) e = absurd (cc)
+same_true (c ∷ s) [] e = absurd (cc)
 same_true (c ∷ s) (d ∷ t) e =
     let h : c ≡ d = eqb-true c d (and_1 _ _ e) in
     let i : s ≡ t = same_true s t (and_2 (eqb c d) _ e) in

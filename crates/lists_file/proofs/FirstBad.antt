@@ -60,7 +60,7 @@ record Stopped (index group : ℕ) (v : Version) (A : Lists) (lines : List (List
 
 stopped : (index group : ℕ) (v : Version) (A : Lists) (lines : List (List ℕ)) (rest : List ℕ) {k : ℕ} → load_from index group v A lines rest ≡ bad_line k → Stopped index group v A lines rest k
 unfolding load_from
-stopped index group v A [] [] q = let z : ◌≡◌ {A = ℕ} 0 1 = cc in absurd (omega arith)
+stopped index group v A [] [] q = absurd (cc)
 stopped index group v A [] (c ∷ rest) {k} q =
     let o : index ≡ k = cc in
     record { many = 0; place = omega arith; lists = A; before = refl; here = q }

@@ -104,7 +104,7 @@ unfolding load_from
 accepted index group v A [] [] {w} {L} g q =
     let o : A ≡ L = cc in
     record { version = cc; fit = subst ListsFit o g.fit; made = append-nil (body A) ∙ ap body o }
-accepted index group v A [] (c ∷ rest) g q = let z : ◌≡◌ {A = ℕ} 0 1 = cc in absurd (omega arith)
+accepted index group v A [] (c ∷ rest) g q = absurd (cc)
 accepted index group v A (text ∷ lines) rest {w} {L} g q = by_step (step index group v A text) (λ (e : Entry). accepted (suc index) e.which v (added e.which e.low e.high A) lines rest)
   where
     by_step : Step index group v A text
@@ -133,7 +133,7 @@ pub record Holds (s : List ℕ) (v : Version) (L : Lists) : Type 0 where
 
 holds_parts : (lines : List (List ℕ)) (rest : List ℕ) {v : Version} {L : Lists} → load_lines lines rest ≡ loaded v L → Holds (whole newline (parts lines rest)) v L
 unfolding file_of group_lines
-holds_parts [] rest q = let z : ◌≡◌ {A = ℕ} 0 1 = cc in absurd (omega arith)
+holds_parts [] rest q = absurd (cc)
 holds_parts (text ∷ lines) rest {v} {L} q = by_step (first_step text)
   where
     by_step : FirstStep text → Holds (whole newline (parts (text ∷ lines) rest)) v L
