@@ -5,7 +5,7 @@ use mathlib.Core.Bool.{Bool}
 use mathlib.Core.List.{List}
 use Rattle.token.specs.Lists.{Lists}
 use Rattle.token.specs.Tokens.{records}
-use Rattle.plan.specs.declared.ListAnswer.{ListAnswer}
+use Rattle.plan.specs.Answers.{ListAnswer}
 use Rattle.slots.specs.Answers.{slots_after, Slotted}
 
 module _ {limit : ℕ} {s before after later : List ℕ} {L : Lists} {on : Bool} {r q : ListAnswer} (f : Slotted limit s L on before after r) (g : Slotted limit s L on before later q) where

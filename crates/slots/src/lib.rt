@@ -2,14 +2,16 @@
 // counted, before the first number is written.
 #![tactic(auto)]
 
-ghost use Rattle.std.specs.Prelude.{◌+◌, ◌≤◌, [], ◌∷◌, length};
+ghost use Rattle.std.specs.Prelude.{◌+◌, ◌*◌, ◌≤◌, [], ◌∷◌, length};
 ghost use Rattle.token.specs.Lists.{lent};
+ghost use Rattle.token.specs.Tokens.{records};
 ghost use Rattle.puts.specs.Put.{Put};
 ghost use Rattle.slots.specs.Numbers.{width, slot_of};
-ghost use Rattle.slots.specs.Fills.{TokenFits, Filling, FilledSlots};
+ghost use Rattle.slots.specs.Fills.{TokenFits, FilledSlots};
 ghost use Rattle.slots.specs.Answers.{Slotted};
 
-use plan::ListAnswer;
+use lexer::Source;
+use plan::ListRefusal;
 use ranges::MAX_PAIRS;
 use token::Token;
 
@@ -49,16 +51,16 @@ pub fn put_token(slots: &mut [u32], n: usize, token: Token) -> usize
 }
 
 // Writes the numbers of every token of a text that was checked into a run that has room for them.
-fn fill(text: &[u8], starts: &[u32], continues: &[u32], emoji: &[u32], on: bool, slots: &mut [u32])
-    requires { Filling (lent starts.now continues.now emoji.now) text.now on slots.old }
-    ensures { FilledSlots (lent starts.now continues.now emoji.now) text.now on slots.old slots.new }
+fn fill(source: &Source, on: bool, slots: &mut [u32])
+    requires { width * length (records source.now.lists on source.now.text) ≤ length slots.old }
+    ensures { FilledSlots source.now.lists source.now.text on slots.old slots.new }
 {
+    let text = source.text();
     let mut used: usize = 0;
-    let mut scan = lexer::start(on);
+    let mut scan = source.start(on);
     while scan.next < text.len() {
-        scan = lexer::step(text, starts, continues, emoji, scan);
-        let token = scan.token;
-        used = put_token(slots, used, token);
+        scan = lexer::step(source, scan);
+        used = put_token(slots, used, scan.token);
     }
 }
 
@@ -71,17 +73,11 @@ pub fn tokens(
     emoji: &[u32],
     on: bool,
     slots: &mut [u32],
-) -> ListAnswer
+) -> Result<usize, ListRefusal>
     ensures { Slotted MAX_PAIRS text.now (lent starts.now continues.now emoji.now) on slots.old slots.new result }
 {
-    let plan = plan::plan_list(text, starts, continues, emoji, on, slots.len() / WIDTH);
-    let answer = plan.answer;
-    match answer {
-        ListAnswer::Listed(n) => {
-            fill(text, starts, continues, emoji, on, slots);
-            ListAnswer::Listed(n)
-        }
-        ListAnswer::Slots(needed) => ListAnswer::Slots(needed),
-        ListAnswer::Refused(bad) => ListAnswer::Refused(bad),
-    }
+    let source = Source::new(text, starts, continues, emoji)?;
+    let n = plan::fitting(&source, on, slots.len() / WIDTH)?;
+    fill(&source, on, slots);
+    Ok(n)
 }
