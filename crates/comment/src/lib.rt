@@ -13,6 +13,7 @@ ghost use Rattle.cursor.specs.Moved.{Moved};
 ghost use Rattle.cursor.specs.Ran.{left, Ran};
 
 use cursor::{Cursor, Ended, Lexed};
+use text::CodePoint;
 use token::{DocStyle, TokenKind};
 
 // Past the whitespace at a cursor.
@@ -39,37 +40,31 @@ pub fn eat_line(text: &[u8], from: Cursor) -> Cursor
     from.eat_while(text, |c| c != 0x0A)
 }
 
-// What the characters after `//` make of a line comment.
-fn line_doc(text: &[u8], from: Cursor) -> Option<DocStyle>
-    ensures { result ≡ line_doc (rest text.now from) }
+// What the characters after a comment's beginning make of it: `!` is inner; the character that the comment began with is outer, unless it or a slash follows.
+fn doc_style(text: &[u8], from: Cursor, mark: CodePoint) -> Option<DocStyle>
+    ensures line { mark ≡ 0x2F → result ≡ line_doc (rest text.now from) }
+    ensures block { mark ≡ 0x2A → result ≡ block_doc (rest text.now from) }
 {
-    match from.first(text) {
-        0x21 => Some(DocStyle::Inner),
-        0x2F if from.second(text) != 0x2F => Some(DocStyle::Outer),
-        _ => None,
+    let c = from.first(text);
+    if c == 0x21 {
+        return Some(DocStyle::Inner);
     }
+    let d = from.second(text);
+    if c == mark && d != mark && d != 0x2F {
+        return Some(DocStyle::Outer);
+    }
+    None
 }
 
 // A line comment, after its two slashes.
 fn line_comment(text: &[u8], from: Cursor) -> Lexed
     ensures { Ran line_comment text.now from result.next result.kind }
 {
-    let doc_style = line_doc(text, from);
+    let doc_style = doc_style(text, from, 0x2F);
     let next = eat_line(text, from);
     Lexed {
         kind: TokenKind::LineComment { doc_style },
         next,
-    }
-}
-
-// What the characters after `/*` make of a block comment.
-fn block_doc(text: &[u8], from: Cursor) -> Option<DocStyle>
-    ensures { result ≡ block_doc (rest text.now from) }
-{
-    match from.first(text) {
-        0x21 => Some(DocStyle::Inner),
-        0x2A if !matches!(from.second(text), 0x2A | 0x2F) => Some(DocStyle::Outer),
-        _ => None,
     }
 }
 
@@ -109,7 +104,7 @@ fn block_rest(text: &[u8], from: Cursor) -> Ended
 fn block_comment(text: &[u8], from: Cursor) -> Lexed
     ensures { Ran block_comment text.now from result.next result.kind }
 {
-    let doc_style = block_doc(text, from);
+    let doc_style = doc_style(text, from, 0x2A);
     let ended = block_rest(text, from);
     let terminated = ended.terminated;
     let next = ended.next;

@@ -43,5 +43,5 @@ pub rest_short : (s : List ℕ) (c : Cursor) → length (rest s c) ≤ length s
 rest_short s c = rw (rest_is s c) (omega (arith, few_chars (chars (drop c.at s)), size_chars (drop c.at s), length-drop c.at s))
 
 -- a byte of ASCII at a cursor
-pub seen_ascii : (s : List ℕ) (c : Cursor) {x : ℕ} → c.at < length s → x ≡ get_or s c.at 0 → x < 0x80 → Seen s c (Some (x, record { at = c.at + 1 }))
-seen_ascii s c {x} h e l = seen_char s c (at_ascii s c.at h e l) refl
+pub seen_ascii : (s : List ℕ) (c : Cursor) {b x : ℕ} → c.at < length s → b ≡ get_or s c.at 0 → b < 0x80 → x ≡ b → Seen s c (Some (x, record { at = c.at + 1 }))
+seen_ascii s c h e l q = seen_char s c (at_ascii s c.at h (q ∙ e) (omega arith)) refl

@@ -17,7 +17,8 @@ pub struct Cursor {
     at: usize,
 }
 
-// What a rule of the book gives: the kind of the token, and the cursor past it.
+// What a rule of the book gives: the kind of the token, and the cursor past it. This struct and the next ones stay apart: the second field of each says by
+// its name what was found, and one struct over any type would be no plainer.
 #[derive(Clone, Copy)]
 pub struct Lexed {
     pub kind: TokenKind,
@@ -38,7 +39,7 @@ pub struct Scanned {
     pub next: Cursor,
 }
 
-// What a search for an end gives: the cursor past it, and whether it was found.
+// What a search for an end gives: the cursor past it, and whether it was found. No Option: the cursor is given in either case.
 #[derive(Clone, Copy)]
 pub struct Ended {
     pub next: Cursor,
@@ -52,7 +53,7 @@ pub struct Repeated {
     pub count: usize,
 }
 
-// A count as one of 000's numbers: the one place at which it becomes a u32.
+// A count as one of 000's numbers: the one place at which it becomes a u32. It fits, as is asked, so that `try_from` would have an error that cannot come.
 pub fn narrow(n: usize) -> u32
     requires { n ≤ 4294967295 }
     ensures { result ≡ n }
@@ -85,7 +86,7 @@ impl Cursor {
             let b = text[at];
             if b < 0x80 {
                 let past = Cursor { at: at + 1 };
-                return Some((b as u32, past));
+                return Some((u32::from(b), past));
             }
         }
         self.peek_far(text)
@@ -106,7 +107,7 @@ impl Cursor {
         }
     }
 
-    // The next character; 0 where there is none.
+    // The next character; 0 where there is none, as 000's `first` says it.
     pub fn first(self, text: &[u8]) -> CodePoint
         ensures { result ≡ get_or (rest text.now self) 0 0 }
     {
@@ -149,7 +150,7 @@ impl Cursor {
         cur
     }
 
-    // Past all characters at the cursor that are `wanted`, and how many they are.
+    // Past all characters at the cursor that are `wanted`, and how many they are: a loop of its own, since `eat_while` does not count.
     pub fn eat_repeated(self, text: &[u8], wanted: CodePoint) -> Repeated
         ensures { Counted wanted text.now self result }
     {
@@ -165,7 +166,7 @@ impl Cursor {
         Repeated { next: cur, count }
     }
 
-    // The second next character; 0 where there is none.
+    // The second next character; 0 where there is none, as 000's `second` says it.
     pub fn second(self, text: &[u8]) -> CodePoint
         ensures { result ≡ get_or (rest text.now self) 1 0 }
     {

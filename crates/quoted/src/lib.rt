@@ -122,7 +122,7 @@ pub fn raw_rest(text: &[u8], from: Cursor, count: usize) -> Ended
     }
 }
 
-// The cursor past a raw string without its suffix, and its count of hashes.
+// The cursor past a raw string without its suffix, and its count of hashes, if it has one.
 #[derive(Clone, Copy)]
 pub struct RawQuoted {
     pub next: Cursor,
@@ -143,6 +143,7 @@ pub fn raw_double_quoted_string(text: &[u8], from: Cursor) -> RawQuoted
         };
     }
     let ended = raw_rest(text, quote.bump(text), n);
+    // The limit of the rule stands here as it is, where `u8::try_from` would hide it.
     let count = if ended.terminated && n < 256 {
         Some(n as u8)
     } else {

@@ -122,7 +122,7 @@ pub fn validate_raw_str(text: &[u8], prefix: usize) -> Result<Result<(), RawStrE
     Ok(raw_check(text, prefix))
 }
 
-// What is wrong with a raw string, by number.
+// What is wrong with a raw string, by number. A usize is at least as wide as 000's numbers, but has no `From` of them.
 fn error_numbers(error: RawStrError) -> Numbers
     ensures { result ≡ error_numbers error }
 {

@@ -3,4 +3,4 @@ use Rattle.comment.proofs.Rules.{block_in}
 use Rattle.comment.proofs.block_comment.Goals as goal
 
 pub returns : goal.returns
-returns c = search block_in
+returns c = search (block_in, c.doc_style-doc_style.ensures.block)

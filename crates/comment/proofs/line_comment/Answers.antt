@@ -3,4 +3,4 @@ use Rattle.comment.proofs.Rules.{line_in}
 use Rattle.comment.proofs.line_comment.Goals as goal
 
 pub returns : goal.returns
-returns c = search line_in
+returns c = search (line_in, c.doc_style-doc_style.ensures.line)
