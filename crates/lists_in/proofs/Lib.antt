@@ -4,4 +4,3 @@ pub mod Surveying
 pub mod Filling
 pub mod Calls
 pub mod Answers
-pub mod Fits
