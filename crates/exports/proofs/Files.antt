@@ -1,9 +1,9 @@
 -- The two calls on a file of lists, in the facts of the code.
-use Prim.Native.Nat.{ℕ, ◌≤◌, ◌<◌}
+use Prim.Native.Nat.{ℕ}
 use mathlib.Core.Path.{◌≡◌, refl, sym, ap, ◌∙◌}
 use mathlib.Core.Bool.{Bool, true, false}
 use mathlib.Core.List.{List}
-use borrow.Author.Tests.{leb-true, le-leb, lt-leb}
+use borrow.Author.Tests.{leb-true}
 use lib.Dec.{leb}
 use lib.ListN.{length}
 use Rattle.basics.proofs.Choices.{and_1, and_2}
@@ -14,10 +14,8 @@ use Rattle.lists_file.specs.declared.Version.{Version}
 use Rattle.lists_file.specs.File.{file_of, VersionFits}
 use Rattle.lists_file.specs.Lines.{version}
 use Rattle.lists_file.specs.Load.{load}
-use Rattle.lists_in.specs.declared.ReadAnswer.{ReadAnswer}
-use Rattle.lists_in.specs.Answers.{run_after, lists_in, Reading}
-use Rattle.lists_out.specs.declared.WriteAnswer.{WriteAnswer}
-use Rattle.lists_out.specs.Answers.{write_answer, buffer_after, write_numbers, Writing}
+use Rattle.lists_in.specs.Answers.{ReadAnswer, run_after, lists_in, Reading}
+use Rattle.lists_out.specs.Answers.{WriteAnswer, write_answer, buffer_after, write_numbers, Writing}
 use Rattle.exports.specs.declared.Answer.{Answer}
 use Rattle.exports.specs.declared.ListsAnswer.{ListsAnswer}
 use Rattle.exports.specs.Answers.{answer_of}
@@ -37,15 +35,6 @@ read_out {file = file} {a = a} {b = b} {c = c} p f =
 
 -- the numbers of a version
 module _ (major minor update : ℕ) where
-  pub version_last : major ≤ 65535 → minor ≤ 65535 → leb update 65535 ≡ is_version major minor update
-  version_last a b = rw (le-leb major 65535 a, le-leb minor 65535 b) refl
-
-  pub minor_over : major ≤ 65535 → 65535 < minor → false ≡ is_version major minor update
-  minor_over a b = rw (le-leb major 65535 a, lt-leb minor 65535 b) refl
-
-  pub major_over : 65535 < major → false ≡ is_version major minor update
-  major_over a = rw (lt-leb major 65535 a) refl
-
   module _ {t : Bool} (e : t ≡ is_version major minor update) where
     pub version_fits : t ≡ true → VersionFits (version major minor update)
     version_fits y =

@@ -1,33 +1,26 @@
 -- What a call says goes out by its numbers, in the facts of the code.
+use Rattle.std.specs.Prelude.{Option, Result}
+use Rattle.refusal.specs.declared.Bad.{Bad}
 use Prim.Native.Nat.{ℕ}
 use mathlib.Core.Path.{◌≡◌, sym, ap, ◌∙◌}
 use mathlib.Core.Bool.{Bool}
 use mathlib.Core.List.{List}
 use Rattle.refusal.specs.declared.Numbers.{Numbers}
-use Rattle.token.specs.declared.Guarded.{Guarded}
-use Rattle.token.specs.declared.Offset.{Offset}
 use Rattle.token.specs.Lists.{Lists}
 use Rattle.token.specs.Tokens.{records}
 use Rattle.kinds.specs.Codes.{kind_code, suffix_of}
 use Rattle.lexer.specs.declared.Scan.{Scan}
-use Rattle.shebang.specs.declared.ShebangAnswer.{ShebangAnswer}
 use Rattle.shebang.specs.Answers.{Stripped, shebang_numbers}
-use Rattle.plan.specs.declared.ListAnswer.{ListAnswer}
-use Rattle.plan.specs.Answers.{list_numbers}
+use Rattle.plan.specs.Answers.{ListAnswer, list_numbers}
 use Rattle.slots.specs.Answers as slots
 use Rattle.slots.specs.Answers.{Slotted}
 use Rattle.line_ends.specs.LineEnds.{replaced}
 use Rattle.canon.specs.Key.{key_of}
-use Rattle.key.specs.declared.KeyAnswer.{KeyAnswer}
 use Rattle.key.specs.Answers as key
-use Rattle.key.specs.Answers.{Keying, key_numbers}
+use Rattle.key.specs.Answers.{KeyAnswer, Keying, key_numbers}
 use Rattle.exports.specs.declared.Answer.{Answer}
 use Rattle.exports.specs.Answers.{answer_of}
-use Rattle.exports.specs.declared.RawStrAnswer.{RawStrAnswer}
-use Rattle.exports.specs.declared.GuardedStrAnswer.{GuardedStrAnswer}
 use Rattle.exports.specs.Tokens.{given_out}
-use Rattle.exports.specs.RawStrs.{no_end_of}
-use Rattle.exports.specs.Guards.{found_of}
 use Rattle.exports.specs.Shebangs.{StrippedOut}
 use Rattle.exports.specs.Buffers.{TokensOut, KeyOut}
 
@@ -38,14 +31,6 @@ at_case f n e p = p ∙ sym (ap (f n) e)
 -- the same, the numbers being the answer's
 pub by_case : {A B : Type 0} (f : Numbers → A → B) (g : A → Numbers) {n : Numbers} {a x : A} {r : B} → n ≡ g a → a ≡ x → r ≡ f n x → r ≡ f (g a) a
 by_case f g {a = a} q e p = at_case f _ e p ∙ ap (λ (m : Numbers). f m a) q
-
--- a string that is found, or none
-pub found_case : (n : Numbers) (next : ℕ) {a x : Guarded} {r : GuardedStrAnswer} → a ≡ x → r ≡ found_of n x next → r ≡ found_of n a next
-found_case n next e p = p ∙ sym (ap (λ (g : Guarded). found_of n g next) e)
-
--- an offset, or none
-pub offset_case : (n : Numbers) (expected found : ℕ) {a x : Offset} {r : RawStrAnswer} → a ≡ x → r ≡ no_end_of n expected found x → r ≡ no_end_of n expected found a
-offset_case n expected found e p = p ∙ sym (ap (no_end_of n expected found) e)
 
 -- the codes of a kind
 pub given_in : (n : Numbers) (x : Scan) {code suffix : ℕ} → code ≡ kind_code x.token.kind → suffix ≡ suffix_of x.token.kind
@@ -60,7 +45,7 @@ out_of f p e = p ∙ ap f e
 pub out_by : {A : Type 0} (f : A → Numbers) {r : Answer} {n : Numbers} {a b : A} → r ≡ answer_of n → n ≡ f a → a ≡ b → r ≡ answer_of (f b)
 out_by f p q e = p ∙ ap answer_of (q ∙ ap f e)
 
-pub stripped_out : {s : List ℕ} {r : Answer} {n : Numbers} {a : ShebangAnswer} → r ≡ answer_of n → n ≡ shebang_numbers a → Stripped s a → StrippedOut s r
+pub stripped_out : {s : List ℕ} {r : Answer} {n : Numbers} {a : Result (Option ℕ) Bad} → r ≡ answer_of n → n ≡ shebang_numbers a → Stripped s a → StrippedOut s r
 stripped_out p q x = record { answer = λ L. out_by shebang_numbers p q (x.answer L) }
 
 pub tokens_out : {limit : ℕ} {s : List ℕ} {L : Lists} {on : Bool} {before after : List ℕ} {r : Answer} {n : Numbers} {a : ListAnswer}

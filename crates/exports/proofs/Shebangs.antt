@@ -1,4 +1,5 @@
 -- Where there is a shebang it ends past its mark, so 0 stands for none and for nothing else.
+use Rattle.std.specs.Prelude.{None, Ok, Err}
 use Prim.Native.Nat.{ℕ, ◌+◌, ◌≤◌}
 use mathlib.Core.Path.{◌≡◌, refl, sym, ap, ◌∙◌}
 use mathlib.Core.Bool.{Bool, true, false}
@@ -9,8 +10,7 @@ use Rattle.basics.specs.Choice.{pick, and}
 use Rattle.eaters.specs.Find.{Place, at, nowhere}
 use Rattle.refusal.specs.declared.Bad.{Bad}
 use Rattle.refusal.specs.declared.Bad.TheVariants as bad
-use Rattle.refusal.specs.declared.Verdict.{Verdict}
-use Rattle.refusal.specs.declared.Verdict.TheVariants as verdict
+use Rattle.refusal.specs.Verdict.{Verdict}
 use Rattle.refusal.specs.Numbers.{bad_numbers}
 use Rattle.refusal.specs.Order.{refused_or}
 use Rattle.text.specs.Chars.{chars}
@@ -21,7 +21,6 @@ use Rattle.token.specs.Lists.{Lists}
 use Rattle.token.specs.Names.{is, '#', '!'}
 use Rattle.token.specs.Tokens.{tokens}
 use Rattle.token.specs.Shebang.{meaningful, line_bytes, after_mark, shebang}
-use Rattle.shebang.specs.declared.ShebangAnswer.TheVariants.{Absent, Refused}
 use Rattle.shebang.specs.Answers.{shebang_at, shebang_answer, shebang_numbers}
 use Rattle.exports.specs.declared.Answer.{Answer}
 use Rattle.exports.specs.Shebangs.{StrippedOut}
@@ -50,13 +49,13 @@ refused_some bad.TooLong e = omega (arith, e)
 refused_some (bad.List l p) e = omega (arith, e)
 refused_some (bad.NotUtf8 n k) e = omega (arith, e)
 
-absent_at : (v : Verdict) (p : Place) → Past p → (shebang_numbers (refused_or Refused v (shebang_at p))).number ≡ 0 → (shebang_numbers (refused_or Refused v (shebang_at p))).beside ≡ 0 → refused_or Refused v (shebang_at p) ≡ Absent
-absent_at verdict.Fine (at n) h e f = absurd (omega (arith, h, f))
-absent_at verdict.Fine nowhere h e f = refl
-absent_at (verdict.Refused x) p h e f = absurd (refused_some x e)
+absent_at : (v : Verdict) (p : Place) → Past p → (shebang_numbers (refused_or Err v (Ok (shebang_at p)))).number ≡ 0 → (shebang_numbers (refused_or Err v (Ok (shebang_at p)))).beside ≡ 0 → refused_or Err v (Ok (shebang_at p)) ≡ Ok None
+absent_at (Ok tt) (at n) h e f = absurd (omega (arith, h, f))
+absent_at (Ok tt) nowhere h e f = refl
+absent_at (Err x) p h e f = absurd (refused_some x e)
 
 -- 0 AND 0 are said only where there is no shebang
-pub absent_told : {s : List ℕ} {r : Answer} → StrippedOut s r → r.number ≡ 0 → r.beside ≡ 0 → (L : Lists) → shebang_answer L s ≡ Absent
+pub absent_told : {s : List ℕ} {r : Answer} → StrippedOut s r → r.number ≡ 0 → r.beside ≡ 0 → (L : Lists) → shebang_answer L s ≡ Ok None
 absent_told {s} {r} x e f L =
     absent_at (text_verdict s) (shebang L (chars s)) (shebang_past L (chars s))
     (sym (ap (λ (a : Answer). a.number) (x.answer L)) ∙ e)

@@ -1,5 +1,5 @@
 -- What the two calls on a file of lists say, by number, and what the lent runs and the buffer hold then.
-use Rattle.std.specs.Prelude.{ℕ, ◌≡◌, Bool, List, leb, length}
+use Rattle.std.specs.Prelude.{ℕ, ◌≡◌, Bool, List, leb, length, Ok, Err}
 use Rattle.basics.specs.Choice.{pick, and}
 use Rattle.refusal.specs.declared.Numbers.{Numbers}
 use Rattle.refusal.specs.Numbers.{numbers}
@@ -8,9 +8,7 @@ use Rattle.lists_file.specs.File.{file_of}
 use Rattle.lists_file.specs.Lines.{version}
 use Rattle.lists_file.specs.Load.{load}
 use Rattle.lists_in.specs.declared.Held.{Held}
-use Rattle.lists_in.specs.declared.ReadAnswer.{ReadAnswer}
-use Rattle.lists_in.specs.declared.ReadAnswer.TheVariants.{Loaded, Line, Room, Refused}
-use Rattle.lists_in.specs.Answers.{counts, read_answer, run_after, lists_in, read_numbers}
+use Rattle.lists_in.specs.Answers.{ReadAnswer, counts, read_answer, run_after, lists_in, read_numbers}
 use Rattle.lists_out.specs.Answers.{write_answer, buffer_after, write_numbers}
 use Rattle.exports.specs.declared.Answer.{Answer}
 use Rattle.exports.specs.declared.ListsAnswer.{ListsAnswer}
@@ -26,10 +24,8 @@ held_out n h =
     record { number = n.number; beside = n.beside; second = n.second; major = h.version.major; minor = h.version.minor; update = h.version.update; starts = h.starts; continues = h.continues; emoji = h.emoji }
 
 abbrev pub lists_from : Numbers → ReadAnswer → ListsAnswer
-lists_from n (Loaded held) = held_out n held
-lists_from n (Line index) = no_lists n
-lists_from n (Room list needed) = no_lists n
-lists_from n (Refused bad) = no_lists n
+lists_from n (Ok held) = held_out n held
+lists_from n (Err refusal) = no_lists n
 
 abbrev pub lists_out : ReadAnswer → ListsAnswer
 lists_out answer = lists_from (read_numbers answer) answer

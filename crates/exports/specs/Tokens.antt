@@ -1,10 +1,9 @@
 -- The one-token call's answer as numbers: the kind is its code, which loses nothing beside the start of the suffix.
-use Rattle.std.specs.Prelude.{false}
+use Rattle.std.specs.Prelude.{false, Result, Ok, Err}
+use Rattle.refusal.specs.declared.PlaceRefusal.{PlaceRefusal}
 use Rattle.refusal.specs.declared.Numbers.{Numbers}
 use Rattle.kinds.specs.Codes.{kind_code, suffix_of}
 use Rattle.lexer.specs.declared.Scan.{Scan}
-use Rattle.lexer.specs.declared.OneToken.{OneToken}
-use Rattle.lexer.specs.declared.OneToken.TheVariants.{Given, Position, Refused}
 use Rattle.lexer.specs.Answers.{token_numbers}
 use Rattle.exports.specs.declared.TokenAnswer.{TokenAnswer}
 
@@ -25,10 +24,9 @@ given_out n x = record {
   on = x.on;
 }
 
-abbrev pub token_from : Numbers → OneToken → TokenAnswer
-token_from n (Given x) = given_out n x
-token_from n (Position at) = no_token n
-token_from n (Refused bad) = no_token n
+abbrev pub token_from : Numbers → Result Scan PlaceRefusal → TokenAnswer
+token_from n (Ok x) = given_out n x
+token_from n (Err refusal) = no_token n
 
-abbrev pub token_out : OneToken → TokenAnswer
+abbrev pub token_out : Result Scan PlaceRefusal → TokenAnswer
 token_out answer = token_from (token_numbers answer) answer

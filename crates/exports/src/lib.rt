@@ -4,7 +4,8 @@
 // pointer and a count.
 #![tactic(auto)]
 
-ghost use Rattle.std.specs.Prelude.{◌≡◌};
+ghost use Rattle.std.specs.Prelude.{◌≡◌, true};
+ghost use Rattle.text.specs.Position.{on_boundary};
 ghost use Rattle.classes.specs.Whitespace.{is_whitespace, is_horizontal_whitespace};
 ghost use Rattle.classes.specs.Answers.{answer_numbers, id_start_answer, id_continue_answer, emoji_answer, ident_answer};
 ghost use Rattle.refusal.specs.Numbers.{verdict_numbers};
@@ -21,16 +22,16 @@ ghost use Rattle.exports.specs.Guards.{no_string, found_of, guarded_out};
 ghost use Rattle.exports.specs.Shebangs.{StrippedOut};
 ghost use Rattle.exports.specs.Buffers.{TokensOut, KeyOut};
 ghost use Rattle.exports.specs.Runs.{no_run, ran_out, RunOut};
-ghost use Rattle.exports.specs.Going.{Going, RunPut};
+ghost use Rattle.exports.specs.Going.{RunPut};
 ghost use Rattle.exports.specs.Files.{no_lists, held_out, lists_out, ListsOut, is_version, FileOut};
 
-use lexer::{OneToken, Scan};
+use lexer::{Scan, Source};
 use lists_file::Version;
-use lists_in::{Held, ReadAnswer};
+use lists_in::{Held, ReadRefusal};
 use ranges::MAX_PAIRS;
-use refusal::{Numbers, Verdict};
-use strings::{GuardedAnswer, RawAnswer};
-use token::{Guarded, Offset, RawStr, RawStrError};
+use refusal::{Numbers, PlaceRefusal};
+use strings::{GuardedAt, RawRefusal};
+use token::{GuardedStr, RawStrError};
 
 // An answer by number.
 #[repr(C)]
@@ -165,14 +166,13 @@ fn given_out(n: Numbers, scan: Scan) -> TokenAnswer
     }
 }
 
-fn token_out(answer: OneToken) -> TokenAnswer
+fn token_out(answer: Result<Scan, PlaceRefusal>) -> TokenAnswer
     ensures { result ≡ token_out answer }
 {
     let n = lexer::token_numbers(answer);
     match answer {
-        OneToken::Given(scan) => given_out(n, scan),
-        OneToken::Position(_) => no_token(n),
-        OneToken::Refused(_) => no_token(n),
+        Ok(scan) => given_out(n, scan),
+        Err(_) => no_token(n),
     }
 }
 
@@ -207,31 +207,22 @@ fn ran_out(tokens: usize, scan: Scan) -> RunAnswer
 }
 
 // Writes the numbers of the tokens from a position on, until the text or the slots end.
-fn put_run(
-    text: &[u8],
-    starts: &[u32],
-    continues: &[u32],
-    emoji: &[u32],
-    at: usize,
-    on: bool,
-    slots: &mut [u32],
-) -> RunAnswer
-    requires { Going (lent starts.now continues.now emoji.now) text.now at }
-    ensures { RunPut (lent starts.now continues.now emoji.now) text.now at on slots.old slots.new result }
+fn put_run(source: &Source, at: usize, on: bool, slots: &mut [u32]) -> RunAnswer
+    requires { on_boundary source.now.text at ≡ true }
+    ensures { RunPut source.now.lists source.now.text at on slots.old slots.new result }
 {
-    let mut left = slots.len() / slots::WIDTH;
+    let text = source.text();
+    let most = slots.len() / slots::WIDTH;
     let mut used: usize = 0;
     let mut scan = lexer::before(text, at, on);
-    while 0 < left {
+    for done in 0..most {
         if text.len() <= scan.next {
-            return ran_out(used / slots::WIDTH, scan);
+            return ran_out(done, scan);
         }
-        scan = lexer::step(text, starts, continues, emoji, scan);
-        let token = scan.token;
-        used = slots::put_token(slots, used, token);
-        left = left - 1;
+        scan = lexer::step(source, scan);
+        used = slots::put_token(slots, used, scan.token);
     }
-    ran_out(used / slots::WIDTH, scan)
+    ran_out(most, scan)
 }
 
 // The three numbers, and those of a case of the raw check.
@@ -259,12 +250,12 @@ fn raw_of(
     }
 }
 
-fn no_end_of(n: Numbers, expected: u32, found: u32, offset: Offset) -> RawStrAnswer
+fn no_end_of(n: Numbers, expected: u32, found: u32, offset: Option<u32>) -> RawStrAnswer
     ensures { result ≡ no_end_of n expected found offset }
 {
     match offset {
-        Offset::At(place) => raw_of(n, 2, 0, expected, found, true, place),
-        Offset::Nowhere => raw_of(n, 2, 0, expected, found, false, 0),
+        Some(place) => raw_of(n, 2, 0, expected, found, true, place),
+        None => raw_of(n, 2, 0, expected, found, false, 0),
     }
 }
 
@@ -282,23 +273,22 @@ fn error_of(n: Numbers, error: RawStrError) -> RawStrAnswer
     }
 }
 
-fn check_of(n: Numbers, check: RawStr) -> RawStrAnswer
+fn check_of(n: Numbers, check: Result<(), RawStrError>) -> RawStrAnswer
     ensures { result ≡ check_of n check }
 {
     match check {
-        RawStr::Good => raw_of(n, 0, 0, 0, 0, false, 0),
-        RawStr::Bad(error) => error_of(n, error),
+        Ok(()) => raw_of(n, 0, 0, 0, 0, false, 0),
+        Err(error) => error_of(n, error),
     }
 }
 
-fn raw_out(answer: RawAnswer) -> RawStrAnswer
+fn raw_out(answer: Result<Result<(), RawStrError>, RawRefusal>) -> RawStrAnswer
     ensures { result ≡ raw_out answer }
 {
     let n = strings::raw_numbers(answer);
     match answer {
-        RawAnswer::Checked(check) => check_of(n, check),
-        RawAnswer::Prefix => raw_of(n, 0, 0, 0, 0, false, 0),
-        RawAnswer::Refused(_) => raw_of(n, 0, 0, 0, 0, false, 0),
+        Ok(check) => check_of(n, check),
+        Err(_) => raw_of(n, 0, 0, 0, 0, false, 0),
     }
 }
 
@@ -319,11 +309,11 @@ fn no_string(n: Numbers, next: usize) -> GuardedStrAnswer
 }
 
 // What is found, and where the cursor then stands.
-fn found_of(n: Numbers, found: Guarded, next: usize) -> GuardedStrAnswer
+fn found_of(n: Numbers, found: Option<GuardedStr>, next: usize) -> GuardedStrAnswer
     ensures { result ≡ found_of n found next }
 {
     match found {
-        Guarded::Found(string) => GuardedStrAnswer {
+        Some(string) => GuardedStrAnswer {
             number: n.number,
             beside: n.beside,
             second: n.second,
@@ -333,21 +323,17 @@ fn found_of(n: Numbers, found: Guarded, next: usize) -> GuardedStrAnswer
             token_len: string.token_len,
             next,
         },
-        Guarded::NotFound => no_string(n, next),
+        None => no_string(n, next),
     }
 }
 
-fn guarded_out(answer: GuardedAnswer) -> GuardedStrAnswer
+fn guarded_out(answer: Result<GuardedAt, PlaceRefusal>) -> GuardedStrAnswer
     ensures { result ≡ guarded_out answer }
 {
     let n = strings::guarded_numbers(answer);
     match answer {
-        GuardedAnswer::Given(given) => {
-            let found = given.found;
-            found_of(n, found, given.next)
-        }
-        GuardedAnswer::Position(_) => no_string(n, 0),
-        GuardedAnswer::Refused(_) => no_string(n, 0),
+        Ok(given) => found_of(n, given.found, given.next),
+        Err(_) => no_string(n, 0),
     }
 }
 
@@ -386,15 +372,13 @@ fn held_out(n: Numbers, held: Held) -> ListsAnswer
     }
 }
 
-fn read_out(answer: ReadAnswer) -> ListsAnswer
+fn read_out(answer: Result<Held, ReadRefusal>) -> ListsAnswer
     ensures { result ≡ lists_out answer }
 {
     let n = lists_in::read_numbers(answer);
     match answer {
-        ReadAnswer::Loaded(held) => held_out(n, held),
-        ReadAnswer::Line(_) => no_lists(n),
-        ReadAnswer::Room(_, _) => no_lists(n),
-        ReadAnswer::Refused(_) => no_lists(n),
+        Ok(held) => held_out(n, held),
+        Err(_) => no_lists(n),
     }
 }
 
@@ -402,13 +386,7 @@ fn read_out(answer: ReadAnswer) -> ListsAnswer
 fn is_version(major: u32, minor: u32, update: u32) -> bool
     ensures { result ≡ is_version major minor update }
 {
-    if major <= 65535 {
-        if minor <= 65535 {
-            return update <= 65535;
-        }
-        return false;
-    }
-    false
+    major <= 65535 && minor <= 65535 && update <= 65535
 }
 
 fn version_of(major: u32, minor: u32, update: u32) -> Version
@@ -480,19 +458,14 @@ pub extern "C" fn lovemudarn_tokens_from(
 ) -> RunAnswer
     ensures { RunOut MAX_PAIRS text.now (lent starts.now continues.now emoji.now) at on slots.old slots.new result }
 {
-    match lexer::token_verdict(text, starts, continues, emoji) {
-        Verdict::Fine => {
-            if text::starts_here(text, at) {
-                return put_run(text, starts, continues, emoji, at, on, slots);
-            }
-            no_run(Numbers {
-                number: 4,
-                beside: at,
-                second: 0,
-            })
-        }
-        Verdict::Refused(bad) => no_run(refusal::bad_numbers(bad)),
+    let source = match Source::new(text, starts, continues, emoji) {
+        Ok(source) => source,
+        Err(bad) => return no_run(refusal::bad_numbers(bad)),
+    };
+    if !text::starts_here(text, at) {
+        return no_run(refusal::refused(4, at));
     }
+    put_run(&source, at, on, slots)
 }
 
 // The key of a text: 1, 3, 2, 6 with the start of the first broken token, 7 with the bytes needed, or 0 with the key's bytes. Only 0 writes.
@@ -544,11 +517,7 @@ pub extern "C" fn lovemudarn_write_lists(
         let answer = lists_out::write_lists(version, starts, continues, emoji, out);
         return answer_of(lists_out::write_numbers(answer));
     }
-    answer_of(Numbers {
-        number: 9,
-        beside: 0,
-        second: 0,
-    })
+    answer_of(refusal::refused(9, 0))
 }
 
 // Whether a text is an identifier: 1, 3, 2, or 0 with 1 for yes and 0 for no.
