@@ -7,7 +7,7 @@ ghost use Rattle.token.specs.Lists.{none};
 ghost use Rattle.fields.specs.Pieces.{piece};
 ghost use Rattle.lists_file.specs.Load.{load_at, load};
 ghost use Rattle.lists_in.specs.declared.ReadRefusal.TheVariants.{Shared};
-ghost use Rattle.lists_in.specs.Tallies.{flaw_on, tally_on, tallies_on, tallies_of, verdict_of, RoomForTwo, RoomForPair};
+ghost use Rattle.lists_in.specs.Tallies.{tally_on, tallies_on, tallies_of, verdict_of, RoomForTwo, RoomForPair};
 ghost use Rattle.lists_in.specs.Surveys.{step_of, surveyed, Starting};
 ghost use Rattle.lists_in.specs.Fills.{FillRoom, Filled};
 ghost use Rattle.lists_in.specs.Answers.{roomed_for, judged_of, read_numbers, Reading};
@@ -74,25 +74,19 @@ struct Tally {
     flaw: Option<usize>,
 }
 
-// Where a list breaks a rule first, with a pair more, of this index.
-fn flaw_on(flaw: Option<usize>, previous: u32, index: usize, low: u32, high: u32) -> Option<usize>
-    ensures { result ≡ flaw_on flaw previous index low high }
-{
-    match flaw {
-        None if !ranges::good_pair(previous, low, high) => Some(index),
-        before => before,
-    }
-}
-
 // A pair more.
 fn tally_on(t: Tally, low: u32, high: u32) -> Tally
     requires { RoomForTwo t }
     ensures { result ≡ tally_on t low high }
 {
+    let flaw = match t.flaw {
+        None if !ranges::good_pair(t.previous, low, high) => Some(t.numbers / 2),
+        before => before,
+    };
     Tally {
         numbers: t.numbers + 2,
         previous: high,
-        flaw: flaw_on(t.flaw, t.previous, t.numbers / 2, low, high),
+        flaw,
     }
 }
 
@@ -159,6 +153,7 @@ fn survey_records(file: &[u8], version: Version, from: usize) -> Result<Found, u
     let mut index: usize = 1;
     let mut group: usize = 0;
     let mut tallies = none_yet();
+    // A turn is a line, of any length: `at` is where it begins, `index` its number.
     while at < file.len() {
         let (entry, next) = line_at(file, at).ok_or(index)?;
         if entry.which < group {
@@ -246,6 +241,7 @@ fn fill(file: &[u8], from: usize, pairs: usize, run: &mut [u32]) -> usize
     ensures { Filled file.now from pairs run.old run.new result }
 {
     let mut at = from;
+    // By index: a pair of `chunks_exact_mut` is a slice, whose two places are indexed all the same.
     for k in 0..pairs {
         let Some((entry, next)) = line_at(file, at) else {
             return at;

@@ -117,7 +117,8 @@ fn group_bytes(which: usize, list: &[u32]) -> usize
     n
 }
 
-// The bytes of the file.
+// The bytes of the file. The version and the lists stay four parameters, here and in `put_file`: a struct of them would serve these two functions alone, and
+// `Lists` answers questions of a character and hands out no list.
 fn file_bytes(version: Version, starts: &[u32], continues: &[u32], emoji: &[u32]) -> usize
     requires { AllShort (lent starts.now continues.now emoji.now) }
     ensures { result ≡ file_bytes version (lent starts.now continues.now emoji.now) }
