@@ -2,8 +2,8 @@
 use Rattle.kept.proofs.Bytes.{kept_nowhere, kept_at}
 use Rattle.kept.proofs.kept_after.Goals as goal
 
-pub returns-in-Nowhere : goal.returns-in-Nowhere
-returns-in-Nowhere c = search kept_nowhere
+pub returns-in-None : goal.returns-in-None
+returns-in-None c = search kept_nowhere
 
-pub returns-in-At : goal.returns-in-At
-returns-in-At c = search kept_at
+pub returns-in-Some : goal.returns-in-Some
+returns-in-Some c = search kept_at
