@@ -4,10 +4,14 @@
 ghost use Rattle.std.specs.Prelude.{◌+◌, ◌≤◌, [], ◌∷◌, length};
 ghost use Rattle.puts.specs.Put.{Put};
 
+// One byte is put by itself: most pieces of a key are one, and a call that copies is longer than that.
 pub fn put_bytes(out: &mut [u8], at: usize, s: &[u8]) -> usize
     requires { at + length s.now ≤ length out.old }
     ensures { Put s.now out.old at out.new result }
 {
+    if let [b] = s {
+        return put_byte(out, at, *b);
+    }
     let end = at + s.len();
     out[at..end].copy_from_slice(s);
     end
