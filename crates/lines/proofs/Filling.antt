@@ -3,7 +3,7 @@ use Prim.Native.Nat.{ℕ, zero, suc, ◌+◌, ◌-◌, ◌≤◌, ◌<◌}
 use mathlib.Core.Path.{◌≡◌, refl, sym, ap, ◌∙◌}
 use mathlib.Core.Bool.{Bool, false}
 use mathlib.Core.List.{List, [], ◌∷◌}
-use mathlib.Core.Logic.{◌⊎◌, inl, inr, ⊎_elim}
+use mathlib.Core.Logic.{◌⊎◌, inr, ⊎_elim}
 use borrow.Author.Tests.{lt-ltb, le-ltb}
 use lib.ListN.{length, take, drop}
 use native.Mathlib.Omega.{arith}
@@ -18,7 +18,7 @@ use Rattle.lexer.specs.declared.Bare.{Bare}
 use Rattle.lexer.specs.Scans.{token_size, bare_at, records_from}
 use Rattle.lexer.proofs.Walks.{Char, none_from, ends_past, records_on, fewer_left}
 use Rattle.puts.specs.Put.{PutFew}
-use Rattle.puts.proofs.Joining.{Joining, joining_none, joined_on, joined_long, joined_all}
+use Rattle.puts.proofs.Joining.{Joining, joined_on, joined_long, joined_all}
 use Rattle.token_line.specs.Line.{line}
 use Rattle.lines.specs.Lines.{tokens_from, line_of, lines_of, bytes, lines_from, fitting}
 use Rattle.lines.specs.Filled.{chosen, Filled}
@@ -67,11 +67,6 @@ pub record Filling (L : Lists) (s : List ℕ) (at : ℕ) (out₀ out : List ℕ)
   pub all : Joining line_of (lines_from L s at) out₀ out used (tokens_from L s here)
   pub past : here + bytes (fitting (length out₀ - used) (tokens_from L s here)) ≡ at + bytes (chosen L s at out₀)
   pub moved : ((here ≡ at) × (used ≡ 0)) ⊎ (length (chars (drop here s)) < length (chars (drop at s)))
-
-pub filling_starts : (L : Lists) (s out : List ℕ) (at : ℕ) → Filling L s at out out at 0
-filling_starts L s out at =
-    let z : length out - 0 ≡ length out = omega arith in
-    record { put = rw z (joining_none line_of out (chosen L s at out)); all = joining_none line_of out (tokens_from L s at); past = rw z; moved = inl (refl, refl) }
 
 -- one more token, where its line fits
 fitting_step : (room : ℕ) (t : Token) (ts : List Token) → 33 ≤ room → fitting room (t ∷ ts) ≡ t ∷ fitting (room - length (line_of t)) ts

@@ -1,9 +1,8 @@
 -- What the programs write of a text: the lines of its tokens, or its key, or the line that says why it is refused. `limit` is the most pairs of a list.
-use Rattle.std.specs.Prelude.{ℕ, Bool, false, List, ltb, length}
+use Rattle.std.specs.Prelude.{ℕ, Bool, false, List, ltb, length, Ok, Err}
 use Rattle.basics.specs.Choice.{pick}
 use Rattle.refusal.specs.declared.Bad.TheVariants.{TooLong}
-use Rattle.refusal.specs.declared.Verdict.{Verdict}
-use Rattle.refusal.specs.declared.Verdict.TheVariants.{Fine, Refused}
+use Rattle.refusal.specs.Verdict.{Verdict}
 use Rattle.refusal.specs.Numbers.{bad_numbers}
 use Rattle.token.specs.declared.Token.{Token}
 use Rattle.token.specs.Lists.{Lists}
@@ -15,9 +14,7 @@ use Rattle.token_line.specs.Line.{lined_line}
 use Rattle.lines.specs.Lines.{lines_from}
 use Rattle.line_ends.specs.LineEnds.{replaced}
 use Rattle.canon.specs.Key.{key_of}
-use Rattle.key.specs.declared.KeyAnswer.{KeyAnswer}
-use Rattle.key.specs.declared.KeyAnswer.TheVariants as key
-use Rattle.key.specs.Answers.{key_answer, key_numbers}
+use Rattle.key.specs.Answers.{KeyAnswer, key_answer, key_numbers}
 use Rattle.reports.specs.Lines.{refused_line}
 
 -- the line of a token with the line feeds before it
@@ -37,20 +34,16 @@ abbrev pub within_limit : (s said : List ℕ) → List ℕ
 within_limit s said = pick (ltb 65536 (length s)) (refused_line (bad_numbers TooLong)) said
 
 abbrev pub unless_refused : Verdict → List ℕ → List ℕ
-unless_refused Fine said = said
-unless_refused (Refused bad) said = refused_line (bad_numbers bad)
+unless_refused (Ok fine) said = said
+unless_refused (Err bad) said = refused_line (bad_numbers bad)
 
 -- THE TOKENS: their lines, or one line that says why there are none
 abbrev pub tokens_said : (limit : ℕ) (s : List ℕ) → Lists → (lined : Bool) → List ℕ
 tokens_said limit s L lined = within_limit s (unless_refused (token_verdict limit s L) (token_lines L s lined))
 
 abbrev pub unless_unkeyed : KeyAnswer → List ℕ → List ℕ
-unless_unkeyed (key.Keyed n) said = said
-unless_unkeyed (key.DoubleReturn place) said = refused_line (key_numbers (key.DoubleReturn place))
-unless_unkeyed (key.HiddenMark place) said = refused_line (key_numbers (key.HiddenMark place))
-unless_unkeyed (key.Broken start) said = refused_line (key_numbers (key.Broken start))
-unless_unkeyed (key.Room n) said = refused_line (key_numbers (key.Room n))
-unless_unkeyed (key.Refused bad) said = refused_line (key_numbers (key.Refused bad))
+unless_unkeyed (Ok n) said = said
+unless_unkeyed (Err refusal) said = refused_line (key_numbers (Err refusal))
 
 -- THE KEY: its bytes and nothing else, or one line that says why there is none
 abbrev pub key_said : (limit : ℕ) (s : List ℕ) → Lists → List ℕ

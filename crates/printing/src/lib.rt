@@ -6,59 +6,32 @@
 ghost use Rattle.std.specs.Prelude.{◌+◌, ◌≤◌, ◌≡◌, length, take, false, IfOk, OnOk};
 ghost use Rattle.token.specs.Lists.{lent};
 ghost use Rattle.std.specs.Io.KnownBytes.{Appends};
-ghost use Rattle.lexer.specs.Checked.{Checked};
 ghost use Rattle.lexer.specs.Steps.{start_of};
 ghost use Rattle.lines.specs.Lines.{lines_from};
 ghost use Rattle.printing.specs.Said.{lined_past, token_lines, tokens_said, key_said};
 ghost use Rattle.printing.specs.Written.{Written};
 
-use key::KeyAnswer;
+use lexer::Source;
 use ranges::MAX_PAIRS;
-use refusal::{Bad, Verdict};
+use refusal::Bad;
 use std::io;
 use std::io::Write;
 
-// Zeros for the input and one byte more, which shows that input is longer. Only the length is promised, so that no proof unfolds the zeros.
-pub fn input_room() -> [u8; 65537]
-    ensures { 65537 ≡ length result }
-{
-    [0; 65537]
-}
-
-// Zeros for the lines that are written at once.
-fn output_room() -> [u8; 16384]
-    ensures { 16384 ≡ length result }
-{
-    [0; 16384]
-}
-
-// Zeros for a key: as many as the longest text has bytes.
-fn key_room() -> [u8; 65536]
-    ensures { 65536 ≡ length result }
-{
-    [0; 65536]
-}
+// The room for the input, and for one byte more, which shows that input is longer.
+pub const INPUT_ROOM: usize = 65537;
 
 // Writes the lines of a text that was checked part by part, each as long as the room. A part that stands still is the end.
-fn say_lines<W: Write>(
-    to: &mut W,
-    text: &[u8],
-    starts: &[u32],
-    continues: &[u32],
-    emoji: &[u32],
-) -> io::Result<()>
-    requires { Checked text.now (lent starts.now continues.now emoji.now) }
-    ensures { OnOk result (Appends (W.contents to.old) (W.contents to.new) (lines_from (lent starts.now continues.now emoji.now) text.now 0)) }
+fn say_lines<W: Write>(to: &mut W, source: &Source) -> io::Result<()>
+    ensures { OnOk result (Appends (W.contents to.old) (W.contents to.new) (lines_from source.now.lists source.now.text 0)) }
 {
-    let mut out = output_room();
+    let mut out: [u8; 16384] = input::filled(0);
     let mut at = 0;
     loop {
-        let chunk = lines::fill(text, starts, continues, emoji, at, &mut out);
+        let chunk = lines::fill(source, at, &mut out);
         if chunk.next == at {
             return Ok(());
         }
-        let used = chunk.used;
-        to.write_all(&out[..used])?;
+        to.write_all(&out[..chunk.used])?;
         at = chunk.next;
     }
 }
@@ -77,45 +50,31 @@ fn emptied<W: Write>(to: &mut W, out: &[u8], used: usize) -> io::Result<usize>
 }
 
 // Writes the lines of a text that was checked, each with the line feeds before its token.
-fn say_lined<W: Write>(
-    to: &mut W,
-    text: &[u8],
-    starts: &[u32],
-    continues: &[u32],
-    emoji: &[u32],
-) -> io::Result<()>
-    requires { Checked text.now (lent starts.now continues.now emoji.now) }
-    ensures { OnOk result (Appends (W.contents to.old) (W.contents to.new) (lined_past (lent starts.now continues.now emoji.now) text.now (start_of false))) }
+fn say_lined<W: Write>(to: &mut W, source: &Source) -> io::Result<()>
+    ensures { OnOk result (Appends (W.contents to.old) (W.contents to.new) (lined_past source.now.lists source.now.text (start_of false))) }
 {
-    let mut out = output_room();
+    let mut out: [u8; 16384] = input::filled(0);
     let mut used: usize = 0;
-    let mut scan = lexer::start(false);
+    let text = source.text();
+    let mut scan = source.start(false);
     while scan.next < text.len() {
-        scan = lexer::step(text, starts, continues, emoji, scan);
+        scan = lexer::step(source, scan);
         let token = scan.token;
-        let kind = token.kind;
         let free = emptied(to, &out, used)?;
-        used = token_line::put_lined(&mut out, free, kind, token.len, token.line);
+        used = token_line::put_lined(&mut out, free, token.kind, token.len, token.line);
     }
     to.write_all(&out[..used])
 }
 
 // Writes the lines of a text that was checked, in one form or the other.
-fn say_checked<W: Write>(
-    to: &mut W,
-    text: &[u8],
-    starts: &[u32],
-    continues: &[u32],
-    emoji: &[u32],
-    lined: bool,
-) -> io::Result<()>
-    requires { Checked text.now (lent starts.now continues.now emoji.now) }
-    ensures { OnOk result (Appends (W.contents to.old) (W.contents to.new) (token_lines (lent starts.now continues.now emoji.now) text.now lined)) }
+fn say_checked<W: Write>(to: &mut W, source: &Source, lined: bool) -> io::Result<()>
+    ensures { OnOk result (Appends (W.contents to.old) (W.contents to.new) (token_lines source.now.lists source.now.text lined)) }
 {
     if lined {
-        return say_lined(to, text, starts, continues, emoji);
+        say_lined(to, source)
+    } else {
+        say_lines(to, source)
     }
-    say_lines(to, text, starts, continues, emoji)
 }
 
 // Writes the tokens of a text, with frontmatter off: a line a token, its kind and its length in bytes separated by a tab, and, if `lined`, the line feeds
@@ -133,9 +92,9 @@ pub fn say_tokens<W: Write>(
     if 65536 < text.len() {
         return reports::say_bad(to, Bad::TooLong);
     }
-    match lexer::token_verdict(text, starts, continues, emoji) {
-        Verdict::Refused(bad) => reports::say_bad(to, bad),
-        Verdict::Fine => say_checked(to, text, starts, continues, emoji, lined),
+    match Source::new(text, starts, continues, emoji) {
+        Ok(source) => say_checked(to, &source, lined),
+        Err(bad) => reports::say_bad(to, bad),
     }
 }
 
@@ -153,10 +112,10 @@ pub fn say_key<W: Write>(
     if 65536 < text.len() {
         return reports::say_bad(to, Bad::TooLong);
     }
-    let mut out = key_room();
+    let mut out: [u8; 65536] = input::filled(0);
     let answer = key::key(text, starts, continues, emoji, &mut out);
     match answer {
-        KeyAnswer::Keyed(bytes) => to.write_all(&out[..bytes]),
-        refused => reports::say_refused(to, key::key_numbers(refused)),
+        Ok(bytes) => to.write_all(&out[..bytes]),
+        Err(_) => reports::say_refused(to, key::key_numbers(answer)),
     }
 }

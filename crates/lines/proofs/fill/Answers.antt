@@ -1,8 +1,5 @@
-use Rattle.lines.proofs.Filling.{filling_starts, fewer, turned, full_out, end_out}
+use Rattle.lines.proofs.Filling.{fewer, turned, full_out, end_out}
 use Rattle.lines.proofs.fill.Goals as goal
-
-pub loop-out-init : goal.loop-out-init
-loop-out-init c = search filling_starts
 
 pub loop-out-smaller : goal.loop-out-smaller
 loop-out-smaller c = search fewer

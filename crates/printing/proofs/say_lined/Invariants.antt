@@ -2,7 +2,6 @@
 -- of the text.
 use Rattle.std.proofs.Common.{length, drop, take, false, ◌++◌}
 use Rattle.text.specs.Chars.{chars}
-use Rattle.token.specs.Lists.{lent}
 use Rattle.lexer.specs.Steps.{start_of}
 use Rattle.printing.specs.Said.{lined_past}
 use Rattle.printing.specs.Written.{Written}
@@ -10,8 +9,8 @@ use Rattle.printing.proofs.Parts.{Saying}
 use Rattle.printing.proofs.say_lined.Given as goal
 
 abbrev pub invariant-loop-scan : goal.invariant-loop-scan
-invariant-loop-scan g l = Saying (lent l.starts l.continues l.emoji) l.text l.out l.used l.scan
-    × Written (g.W.Write.contents l.fn.to) (g.W.Write.contents l.to) (take l.used l.out ++ lined_past (lent l.starts l.continues l.emoji) l.text l.scan) (lined_past (lent l.starts l.continues l.emoji) l.text (start_of false))
+invariant-loop-scan g l = Saying l.source.lists l.source.text l.out l.used l.scan
+    × Written (g.W.Write.contents l.fn.to) (g.W.Write.contents l.to) (take l.used l.out ++ lined_past l.source.lists l.source.text l.scan) (lined_past l.source.lists l.source.text (start_of false))
 
 abbrev pub decreases-loop-scan : goal.decreases-loop-scan
-decreases-loop-scan g l = length (chars (drop l.scan.next l.text))
+decreases-loop-scan g l = length (chars (drop l.scan.next l.source.text))
