@@ -3,59 +3,54 @@
 // tools/oracle/README.md describes the files and how they are made.
 #![tactic(auto)]
 
-ghost use Rattle.std.specs.Prelude.{◌≡◌, ◌+◌, ◌<◌, ◌≤◌, length, IfOk};
-ghost use Rattle.replay.specs.Counted.{Tallied, Within, Stopped, One, Steps};
+ghost use Rattle.std.specs.Prelude.{◌≡◌, ◌+◌, ◌<◌, ◌≤◌, length, IfSome, IfOk, IfErr};
+ghost use Rattle.replay.specs.Counted.{Tallied, Within, One, Steps, Short, After};
+ghost use Rattle.replay.specs.declared.Stop.TheVariants.{Output};
 
 use std::env::{Env, FillError};
 use std::io::Write;
 use std::rt::Files;
 use std::{fs, io};
-use vectors::Part;
+use stored::Lent;
+use vectors::{Part, Vector};
 
-// How far a file was read, what agreed and what did not, and whether the file is out of form.
+// How far a file was read, what agreed and what did not.
 #[derive(Clone, Copy)]
 struct Tally {
     pub at: usize,
     pub same: usize,
     pub other: usize,
-    pub stopped: bool,
+}
+
+// Why a file was not read to its end: it is out of form past what was counted, or what was to be written could not be.
+#[derive(Drop)]
+enum Stop {
+    OutOfForm(Tally),
+    Output(io::Error),
+}
+
+impl From<io::Error> for Stop {
+    ghost from_gives = { λ why stop. stop ≡ Output why };
+
+    fn from(why: io::Error) -> Stop {
+        Stop::Output(why)
+    }
 }
 
 fn say_bad<W: Write>(to: &mut W, at: usize) -> io::Result<()> {
     writeln!(to, "differs at {at}")
 }
 
-// The file is out of form: nothing more of it is read.
-fn stop(t: Tally) -> Tally
-    ensures { Stopped t result }
-{
-    Tally {
-        at: t.at,
-        same: t.same,
-        other: t.other,
-        stopped: true,
-    }
-}
-
 // Whether the answer of an operation on a part of a file is the answer that stands in another part.
-fn agrees(
-    s: &[u8],
-    operation: u32,
-    input: Part,
-    answer: Part,
-    starts: &[u32],
-    continues: &[u32],
-    emoji: &[u32],
-    out: &mut [u8],
-) -> bool
-    requires { Within (length s.now) input × Within (length s.now) answer }
+fn agrees(s: &[u8], v: Vector, lists: Lent, out: &mut [u8]) -> bool
+    requires { Within (length s.now) v.input × Within (length s.now) v.answer }
 {
-    let a = input.from;
-    let b = input.to;
-    let c = answer.from;
-    let d = answer.to;
-    let k = stored::answer(operation, &s[a..b], starts, continues, emoji, out);
-    out[..k] == s[c..d]
+    let input = &s[v.input.from..v.input.to];
+    let answer = &s[v.answer.from..v.answer.to];
+    match stored::answer(v.operation, input, lists, out) {
+        Some(k) => &out[..k] == answer,
+        None => false,
+    }
 }
 
 // One vector more, up to a place: it agrees, or it differs.
@@ -64,18 +59,17 @@ fn counted(t: Tally, to: usize, agrees: bool) -> Tally
     ensures { One t to agrees result }
 {
     if agrees {
-        return Tally {
+        Tally {
             at: to,
             same: t.same + 1,
-            other: t.other,
-            stopped: t.stopped,
-        };
-    }
-    Tally {
-        at: to,
-        same: t.same,
-        other: t.other + 1,
-        stopped: t.stopped,
+            ..t
+        }
+    } else {
+        Tally {
+            at: to,
+            other: t.other + 1,
+            ..t
+        }
     }
 }
 
@@ -84,27 +78,21 @@ fn step<W: Write>(
     to: &mut W,
     s: &[u8],
     t: Tally,
-    starts: &[u32],
-    continues: &[u32],
-    emoji: &[u32],
+    lists: Lent,
     out: &mut [u8],
-) -> io::Result<Tally>
+) -> Result<Tally, Stop>
     requires { Tallied (length s.now) t }
-    ensures { IfOk result (λ r. Steps (length s.now) 1 t r) }
+    ensures all { IfOk result (Steps (length s.now) 1 t) }
+    ensures few { IfErr result (Short (length s.now) 1 t) }
 {
-    let at = t.at;
-    let v = vectors::vector_at(s, at);
-    let input = v.input;
-    let answer = v.answer;
-    let end = answer.to;
-    if end <= at {
-        return Ok(stop(t));
-    }
-    let same = agrees(s, v.operation, input, answer, starts, continues, emoji, out);
+    let Some(v) = vectors::vector_at(s, t.at) else {
+        return Err(Stop::OutOfForm(t));
+    };
+    let same = agrees(s, v, lists, out);
     if !same {
-        say_bad(to, at)?;
+        say_bad(to, t.at)?;
     }
-    Ok(counted(t, end, same))
+    Ok(counted(t, v.answer.to, same))
 }
 
 // As many vectors as `count` says.
@@ -113,163 +101,95 @@ fn steps<W: Write>(
     s: &[u8],
     from: Tally,
     count: u32,
-    starts: &[u32],
-    continues: &[u32],
-    emoji: &[u32],
+    lists: Lent,
     out: &mut [u8],
-) -> io::Result<Tally>
+) -> Result<Tally, Stop>
     requires { Tallied (length s.now) from }
-    ensures { IfOk result (λ r. Steps (length s.now) count from r) }
+    ensures all { IfOk result (Steps (length s.now) count from) }
+    ensures few { IfErr result (Short (length s.now) count from) }
 {
     let mut t = from;
-    let mut left = count;
-    while 0 < left {
-        t = step(to, s, t, starts, continues, emoji, out)?;
-        if t.stopped {
-            return Ok(t);
-        }
-        left -= 1;
+    for _ in 0..count {
+        t = step(to, s, t, lists, out)?;
     }
     Ok(t)
 }
 
-// Zeros for a list: as many as a whole file has numbers, so that no list in a file has more. Only the length is promised, so that no proof unfolds
-// the zeros.
-fn list_room() -> [u32; 65536]
-    ensures { 65536 ≡ length result }
-{
-    [0; 65536]
+// How a section begins: where its lists stand, how many vectors it has, and where the first of them is.
+#[derive(Clone, Copy)]
+struct Head {
+    pub starts: Part,
+    pub continues: Part,
+    pub emoji: Part,
+    pub count: u32,
+    pub end: usize,
 }
 
-// The vectors of a section, with the lists that stand in three parts of the file.
-fn with_lists<W: Write>(
-    to: &mut W,
-    s: &[u8],
-    first: Tally,
-    count: u32,
-    starts_at: Part,
-    continues_at: Part,
-    emoji_at: Part,
-    out: &mut [u8],
-) -> io::Result<Tally>
-    requires { Tallied (length s.now) first }
-    ensures { IfOk result (λ r. Steps (length s.now) count first r) }
+fn head_at(s: &[u8], at: usize) -> Option<Head>
+    ensures { IfSome result (λ h. After (length s.now) at h.end) }
 {
-    let mut starts = list_room();
-    let i = vectors::load(s, starts_at, &mut starts);
-    let mut continues = list_room();
-    let j = vectors::load(s, continues_at, &mut continues);
-    let mut emoji = list_room();
-    let k = vectors::load(s, emoji_at, &mut emoji);
-    steps(
-        to,
-        s,
-        first,
+    let starts = vectors::numbers_at(s, at)?;
+    let continues = vectors::numbers_at(s, starts.to)?;
+    let emoji = vectors::numbers_at(s, continues.to)?;
+    let count = vectors::number(s, emoji.to)?;
+    Some(Head {
+        starts,
+        continues,
+        emoji,
         count,
-        &starts[..i],
-        &continues[..j],
-        &emoji[..k],
-        out,
-    )
+        end: emoji.to + 4,
+    })
 }
 
-// One section: three lists, a count, and as many vectors.
-fn section<W: Write>(to: &mut W, s: &[u8], t: Tally, out: &mut [u8]) -> io::Result<Tally>
+// The vectors of a section, with its lists. There is room for as many numbers as a whole file has, so that no list in a file has more.
+fn section<W: Write>(to: &mut W, s: &[u8], t: Tally, out: &mut [u8]) -> Result<Tally, Stop>
     requires { Tallied (length s.now) t }
-    ensures { IfOk result (λ r. Tallied (length s.now) r) }
+    ensures counted { IfOk result (Tallied (length s.now)) }
+    ensures on { IfOk result (λ r. t.at < r.at) }
 {
-    let starts = vectors::numbers_at(s, t.at);
-    if starts.to <= t.at {
-        return Ok(stop(t));
-    }
-    let continues = vectors::numbers_at(s, starts.to);
-    if continues.to <= starts.to {
-        return Ok(stop(t));
-    }
-    let emoji = vectors::numbers_at(s, continues.to);
-    if emoji.to <= continues.to {
-        return Ok(stop(t));
-    }
-    let at = emoji.to;
-    if s.len() - at < 4 {
-        return Ok(stop(t));
-    }
-    let first = Tally {
-        at: at + 4,
-        same: t.same,
-        other: t.other,
-        stopped: t.stopped,
+    let Some(head) = head_at(s, t.at) else {
+        return Err(Stop::OutOfForm(t));
     };
-    let count = vectors::number(s, at);
-    with_lists(to, s, first, count, starts, continues, emoji, out)
-}
-
-// Every section of a file.
-fn sections<W: Write>(to: &mut W, s: &[u8], out: &mut [u8]) -> io::Result<Tally>
-    ensures { IfOk result (λ r. Tallied (length s.now) r) }
-{
-    let mut t = Tally {
-        at: 0,
-        same: 0,
-        other: 0,
-        stopped: false,
+    let mut starts: [u32; 65536] = input::filled(0);
+    let i = vectors::load(s, head.starts, &mut starts);
+    let mut continues: [u32; 65536] = input::filled(0);
+    let j = vectors::load(s, head.continues, &mut continues);
+    let mut emoji: [u32; 65536] = input::filled(0);
+    let k = vectors::load(s, head.emoji, &mut emoji);
+    let lists = Lent {
+        starts: &starts[..i],
+        continues: &continues[..j],
+        emoji: &emoji[..k],
     };
-    loop {
-        let at = t.at;
-        if s.len() <= at {
-            return Ok(t);
-        }
-        if t.stopped {
-            return Ok(t);
-        }
-        let next = section(to, s, t, out)?;
-        if next.at <= at {
-            return Ok(stop(t));
-        }
-        t = next;
-    }
-}
-
-fn say<W: Write>(to: &mut W, t: Tally) -> io::Result<()> {
-    let same = t.same;
-    let other = t.other;
-    writeln!(to, ": {same} agree, {other} differ")?;
-    if t.stopped {
-        writeln!(to, "the file is out of form")?;
-    }
-    Ok(())
-}
-
-// Zeros for a file and one byte more.
-fn file_room() -> [u8; 262145]
-    ensures { 262145 ≡ length result }
-{
-    [0; 262145]
-}
-
-// Zeros for an answer.
-fn answer_room() -> [u8; 262144]
-    ensures { 262144 ≡ length result }
-{
-    [0; 262144]
+    let first = Tally { at: head.end, ..t };
+    steps(to, s, first, head.count, lists, out)
 }
 
 fn nothing() -> Tally
-    ensures { (result.same ≡ 0) × (result.other ≡ 0) }
+    ensures { Tallied 0 result }
 {
     Tally {
         at: 0,
         same: 0,
         other: 0,
-        stopped: true,
     }
 }
 
-// Zeros for a path: more than the longest that can be opened has.
-fn path_room() -> [u8; 4096]
-    ensures { 4096 ≡ length result }
+// Every section of a file.
+fn sections<W: Write>(to: &mut W, s: &[u8], out: &mut [u8]) -> Result<Tally, Stop>
+    ensures { IfOk result (Tallied (length s.now)) }
 {
-    [0; 4096]
+    let mut t = nothing();
+    while t.at < s.len() {
+        t = section(to, s, t, out)?;
+    }
+    Ok(t)
+}
+
+fn say<W: Write>(to: &mut W, t: Tally) -> io::Result<()> {
+    let same = t.same;
+    let other = t.other;
+    writeln!(to, ": {same} agree, {other} differ")
 }
 
 // The file at a path. Where it cannot be opened there is none, and standard error says why.
@@ -287,18 +207,35 @@ fn opened<R: Files + Eprint>(rt: &R, path: &[u8]) -> io::Result<Option<R::File>>
     }
 }
 
-// The vectors of one file.
-fn file<R: Files + Eprint, W: Write>(rt: &R, to: &mut W, path: &[u8]) -> io::Result<Tally> {
+// The vectors of one file. One that cannot be opened, and one that is too long, counts as out of form from its beginning.
+fn file<R: Files + Eprint, W: Write>(rt: &R, to: &mut W, path: &[u8]) -> Result<Tally, Stop> {
     let Some(mut opened) = opened(rt, path)? else {
-        return Ok(nothing());
+        return Err(Stop::OutOfForm(nothing()));
     };
-    let mut s = file_room();
+    let mut s: [u8; 262145] = input::filled(0);
     let n = input::read_full(&mut opened, &mut s)?;
     if 262144 < n {
-        return Ok(nothing());
+        return Err(Stop::OutOfForm(nothing()));
     }
-    let mut out = answer_room();
+    let mut out: [u8; 262144] = input::filled(0);
     sections(to, &s[..n], &mut out)
+}
+
+// What was counted in the file at a path, said.
+fn said<R: Files + Eprint, W: Write>(rt: &R, to: &mut W, path: &[u8]) -> io::Result<Tally> {
+    to.write_all(path)?;
+    match file(rt, to, path) {
+        Ok(t) => {
+            say(to, t)?;
+            Ok(t)
+        }
+        Err(Stop::OutOfForm(t)) => {
+            say(to, t)?;
+            writeln!(to, "the file is out of form")?;
+            Ok(t)
+        }
+        Err(Stop::Output(why)) => Err(why),
+    }
 }
 
 // The file that argument i names, or nothing past the last argument. An argument that is too long for a path is read as an empty one, which no file has.
@@ -307,21 +244,13 @@ fn argument<R: Env + Files + Eprint, W: Write>(
     to: &mut W,
     i: usize,
 ) -> io::Result<Option<Tally>> {
-    let mut path = path_room();
+    let mut path: [u8; 4096] = input::filled(0);
     let n = match rt.arg(i, &mut path) {
         Ok(n) => n,
         Err(FillError::NotPresent) => return Ok(None),
         Err(FillError::TooLong) => 0,
     };
-    to.write_all(&path[..n])?;
-    let t = file(rt, to, &path[..n])?;
-    say(to, t)?;
-    Ok(Some(t))
-}
-
-fn say_sum<W: Write>(to: &mut W, t: Tally) -> io::Result<()> {
-    write!(to, "in all")?;
-    say(to, t)
+    Ok(Some(said(rt, to, &path[..n])?))
 }
 
 fn main(rt: HostRuntime) -> io::Result<()> {
@@ -335,8 +264,8 @@ fn main(rt: HostRuntime) -> io::Result<()> {
             at: 0,
             same: sum.same.wrapping_add(t.same),
             other: sum.other.wrapping_add(t.other),
-            stopped: false,
         };
     }
-    say_sum(&mut to, sum)
+    write!(to, "in all")?;
+    say(&mut to, sum)
 }

@@ -1,82 +1,54 @@
 // Operations 18 and 19: the reader and the writer of a file of lists.
-ghost use Rattle.std.specs.Prelude.{◌≡◌, ◌≤◌, length};
+ghost use Rattle.std.specs.Prelude.{◌≡◌, ◌≤◌, length, IfSome};
 
+use crate::Lent;
 use crate::keys::put_lent;
 use lists_file::Version;
-use lists_in::{Held, ReadAnswer};
+use lists_in::{Held, ReadRefusal};
 
-// The most numbers of a run that is lent. Only the length is promised, so that no proof unfolds the zeros.
-fn run_room() -> [u32; 20000]
+// A run of the most numbers that are lent, which fall one by one from the largest of 32 bits.
+fn falling() -> [u32; 20000]
     ensures { 20000 ≡ length result }
 {
-    [0; 20000]
-}
-
-// Numbers that fall one by one from the largest of 32 bits.
-fn fill_down(run: &mut [u32]) {
-    let mut n: u32 = 4294967295;
-    let mut i = 0;
-    while i < run.len() {
-        run[i] = n;
-        n = std::num::wrapping_sub_u32(n, 1);
-        i += 1;
+    let mut run: [u32; 20000] = input::filled(0);
+    for (place, n) in run.iter_mut().zip((0..=u32::MAX).rev()) {
+        *place = n;
     }
-}
-
-fn wide(n: u32) -> usize {
-    n as usize
-}
-
-// A run of such numbers.
-fn falling_room() -> [u32; 20000]
-    ensures { 20000 ≡ length result }
-{
-    let mut run = run_room();
-    fill_down(&mut run);
     run
 }
 
-// Puts the numbers of a run, as long as there is room.
-fn put_run(out: &mut [u8], at: usize, run: &[u32]) -> usize
+// Puts the numbers of a run.
+fn put_run(out: &mut [u8], at: usize, run: &[u32]) -> Option<usize>
     requires { at ≤ length out.old }
-    ensures { result ≤ length out.new }
+    ensures { IfSome result (λ next. next ≤ length out.new) }
 {
     let mut next = at;
-    let mut i = 0;
-    while i < run.len() {
-        let one = [wide(run[i])];
-        next = vectors::put(out, next, &one);
-        i += 1;
+    for n in run {
+        next = vectors::put(out, next, &[*n as usize])?;
     }
-    next
+    Some(next)
 }
 
-// What was loaded; zeros where nothing was.
-fn held_of(answer: ReadAnswer) -> Held {
-    match answer {
-        ReadAnswer::Loaded(held) => held,
-        _ => {
-            let version = Version {
-                major: 0,
-                minor: 0,
-                update: 0,
-            };
-            Held {
-                version,
-                starts: 0,
-                continues: 0,
-                emoji: 0,
-            }
-        }
+// What is held where nothing was loaded.
+fn nothing_held() -> Held {
+    Held {
+        version: Version {
+            major: 0,
+            minor: 0,
+            update: 0,
+        },
+        starts: 0,
+        continues: 0,
+        emoji: 0,
     }
 }
 
 // Puts the three numbers of an answer, the version, and how many numbers each run holds.
-fn put_read(out: &mut [u8], answer: ReadAnswer) -> usize
-    ensures { result ≤ length out.new }
+fn put_read(out: &mut [u8], answer: Result<Held, ReadRefusal>) -> Option<usize>
+    ensures { IfSome result (λ n. n ≤ length out.new) }
 {
     let n = lists_in::read_numbers(answer);
-    let held = held_of(answer);
+    let held = answer.unwrap_or(nothing_held());
     let version = held.version;
     let ns = [
         n.number as usize,
@@ -99,97 +71,66 @@ fn read_over(
     continues: &mut [u32],
     emoji: &mut [u32],
     out: &mut [u8],
-) -> usize
-    ensures { result ≤ length out.new }
+) -> Option<usize>
+    ensures { IfSome result (λ n. n ≤ length out.new) }
 {
     let answer = lists_in::read_lists(file, starts, continues, emoji);
-    let n = put_read(out, answer);
-    let past_starts = put_run(out, n, starts);
-    let past_continues = put_run(out, past_starts, continues);
+    let n = put_read(out, answer)?;
+    let past_starts = put_run(out, n, starts)?;
+    let past_continues = put_run(out, past_starts, continues)?;
     put_run(out, past_continues, emoji)
 }
 
 // Operation 18: the reader over three runs of so many numbers.
-pub fn read(input: &[u8], out: &mut [u8]) -> usize
-    ensures { result ≤ length out.new }
+pub fn read(input: &[u8], out: &mut [u8]) -> Option<usize>
+    ensures { IfSome result (λ n. n ≤ length out.new) }
 {
-    if input.len() < 12 {
-        return 0;
-    }
-    let a = vectors::number(input, 0) as usize;
-    let b = vectors::number(input, 4) as usize;
-    let c = vectors::number(input, 8) as usize;
-    if 20000 < a {
-        return 0;
-    }
-    if 20000 < b {
-        return 0;
-    }
-    if 20000 < c {
-        return 0;
-    }
-    let mut starts = falling_room();
-    let mut continues = falling_room();
-    let mut emoji = falling_room();
+    let (a, rest) = vectors::split_number(input)?;
+    let (b, rest) = vectors::split_number(rest)?;
+    let (c, file) = vectors::split_number(rest)?;
+    let mut starts = falling();
+    let mut continues = falling();
+    let mut emoji = falling();
     read_over(
-        &input[12..],
-        &mut starts[..a],
-        &mut continues[..b],
-        &mut emoji[..c],
+        file,
+        starts.get_mut(..a as usize)?,
+        continues.get_mut(..b as usize)?,
+        emoji.get_mut(..c as usize)?,
         out,
     )
 }
 
-// A byte 262,000 times.
-fn filled(byte: u8) -> [u8; 262000]
-    ensures { 262000 ≡ length result }
-{
-    [byte; 262000]
-}
-
 // The call over a buffer, and then what it answers and what the buffer holds.
-fn write_over(
-    version: Version,
-    starts: &[u32],
-    continues: &[u32],
-    emoji: &[u32],
-    buffer: &mut [u8],
-    out: &mut [u8],
-) -> usize
-    ensures { result ≤ length out.new }
+fn write_over(version: Version, lists: Lent, buffer: &mut [u8], out: &mut [u8]) -> Option<usize>
+    ensures { IfSome result (λ n. n ≤ length out.new) }
 {
-    let answer = lists_out::write_lists(version, starts, continues, emoji, buffer);
+    let answer = lists_out::write_lists(
+        version,
+        lists.starts,
+        lists.continues,
+        lists.emoji,
+        buffer,
+    );
     put_lent(out, lists_out::write_numbers(answer), buffer)
 }
 
-// The low 16 bits of a number.
-fn sixteen(n: u32) -> u16 {
-    (n % 65536) as u16
+// The low 16 bits of the number at a place.
+fn sixteen(input: &[u8], at: usize) -> Option<u16> {
+    let n = vectors::number(input, at)?;
+    Some((n % 0x10000) as u16)
 }
 
 // Operation 19: the writer over n bytes, each of which held the same one before.
-pub fn write(
-    input: &[u8],
-    starts: &[u32],
-    continues: &[u32],
-    emoji: &[u32],
-    out: &mut [u8],
-) -> usize
-    ensures { result ≤ length out.new }
+pub fn write(input: &[u8], lists: Lent, out: &mut [u8]) -> Option<usize>
+    ensures { IfSome result (λ n. n ≤ length out.new) }
 {
     let version = Version {
-        major: sixteen(vectors::number(input, 0)),
-        minor: sixteen(vectors::number(input, 4)),
-        update: sixteen(vectors::number(input, 8)),
+        major: sixteen(input, 0)?,
+        minor: sixteen(input, 4)?,
+        update: sixteen(input, 8)?,
     };
-    let room = vectors::number(input, 12) as usize;
-    let byte = vectors::number(input, 16);
-    if 262000 < room {
-        return 0;
-    }
-    if 255 < byte {
-        return 0;
-    }
-    let mut buffer = filled(byte as u8);
-    write_over(version, starts, continues, emoji, &mut buffer[..room], out)
+    let room = vectors::number(input, 12)?;
+    let byte = u8::try_from(vectors::number(input, 16)?).ok()?;
+    let mut buffer: [u8; 262000] = input::filled(byte);
+    write_over(version, lists, buffer.get_mut(..room as usize)?, out)
 }

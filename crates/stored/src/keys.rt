@@ -1,69 +1,35 @@
 // Operation 17: the key call.
-ghost use Rattle.std.specs.Prelude.{◌≡◌, ◌≤◌, length};
+ghost use Rattle.std.specs.Prelude.{◌≡◌, ◌≤◌, length, IfSome};
 
+use crate::Lent;
 use refusal::Numbers;
 
-// A byte 4,096 times.
-fn filled(byte: u8) -> [u8; 4096]
-    ensures { 4096 ≡ length result }
-{
-    [byte; 4096]
-}
-
 // Puts the three numbers of an answer, and after them the bytes that were lent.
-pub fn put_lent(out: &mut [u8], numbers: Numbers, held: &[u8]) -> usize
-    ensures { result ≤ length out.new }
+pub fn put_lent(out: &mut [u8], numbers: Numbers, held: &[u8]) -> Option<usize>
+    ensures { IfSome result (λ n. n ≤ length out.new) }
 {
-    let n = vectors::put_numbers(out, numbers);
+    let n = vectors::put_numbers(out, numbers)?;
     if out.len() - n < held.len() {
-        return 0;
+        return None;
     }
-    puts::put_bytes(out, n, held)
+    Some(puts::put_bytes(out, n, held))
 }
 
 // The call over a buffer, and then what it answers and what the buffer holds.
-fn key_over(
-    text: &[u8],
-    starts: &[u32],
-    continues: &[u32],
-    emoji: &[u32],
-    buffer: &mut [u8],
-    out: &mut [u8],
-) -> usize
-    ensures { result ≤ length out.new }
+fn key_over(text: &[u8], lists: Lent, buffer: &mut [u8], out: &mut [u8]) -> Option<usize>
+    ensures { IfSome result (λ n. n ≤ length out.new) }
 {
-    let answer = key::key(text, starts, continues, emoji, buffer);
+    let answer = key::key(text, lists.starts, lists.continues, lists.emoji, buffer);
     put_lent(out, key::key_numbers(answer), buffer)
 }
 
 // Operation 17: the key call over n bytes, each of which held the same one before.
-pub fn key_of(
-    input: &[u8],
-    starts: &[u32],
-    continues: &[u32],
-    emoji: &[u32],
-    out: &mut [u8],
-) -> usize
-    ensures { result ≤ length out.new }
+pub fn key_of(input: &[u8], lists: Lent, out: &mut [u8]) -> Option<usize>
+    ensures { IfSome result (λ n. n ≤ length out.new) }
 {
-    if input.len() < 8 {
-        return 0;
-    }
-    let room = vectors::number(input, 0) as usize;
-    let byte = vectors::number(input, 4);
-    if 4096 < room {
-        return 0;
-    }
-    if 255 < byte {
-        return 0;
-    }
-    let mut buffer = filled(byte as u8);
-    key_over(
-        &input[8..],
-        starts,
-        continues,
-        emoji,
-        &mut buffer[..room],
-        out,
-    )
+    let (room, rest) = vectors::split_number(input)?;
+    let (byte, text) = vectors::split_number(rest)?;
+    let byte = u8::try_from(byte).ok()?;
+    let mut buffer: [u8; 4096] = input::filled(byte);
+    key_over(text, lists, buffer.get_mut(..room as usize)?, out)
 }

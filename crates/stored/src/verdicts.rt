@@ -1,9 +1,9 @@
 // Operations 1 and 2: whether a text is UTF-8.
-ghost use Rattle.std.specs.Prelude.{◌≤◌, length};
+ghost use Rattle.std.specs.Prelude.{◌≤◌, length, IfSome};
 
 // Operation 1: the verdict on a text.
-pub fn of_text(input: &[u8], out: &mut [u8]) -> usize
-    ensures { result ≤ length out.new }
+pub fn of_text(input: &[u8], out: &mut [u8]) -> Option<usize>
+    ensures { IfSome result (λ n. n ≤ length out.new) }
 {
     vectors::put_numbers(out, refusal::verdict_numbers(text::check_text(input)))
 }
@@ -26,17 +26,12 @@ fn followed_by(text: &[u8], b: u8) -> u8 {
 }
 
 // Operation 2: the verdicts on a text followed by each byte.
-pub fn after_each(input: &[u8], out: &mut [u8]) -> usize
-    ensures { result ≤ length out.new }
+pub fn after_each(input: &[u8], out: &mut [u8]) -> Option<usize>
+    ensures { IfSome result (λ n. n ≤ length out.new) }
 {
-    if out.len() < 256 {
-        return 0;
+    let verdicts = out.get_mut(..256)?;
+    for (verdict, b) in verdicts.iter_mut().zip(0..=255) {
+        *verdict = followed_by(input, b);
     }
-    let mut b = 0;
-    while b < 256 {
-        let v = followed_by(input, (b % 256) as u8);
-        out[b] = v;
-        b += 1;
-    }
-    256
+    Some(256)
 }

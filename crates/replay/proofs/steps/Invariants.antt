@@ -1,10 +1,7 @@
--- Those that are counted and those that are left are all.
+-- Each turn has counted one vector more.
 use Rattle.std.proofs.Common.{length}
-use Rattle.replay.proofs.Laws.{Going}
+use Rattle.replay.specs.Counted.{Steps}
 use Rattle.replay.proofs.steps.Given as goal
 
-abbrev pub invariant-loop-left : goal.invariant-loop-left
-invariant-loop-left g l = Going (length l.s) l.count l.initial.t l.t l.left
-
-abbrev pub decreases-loop-left : goal.decreases-loop-left
-decreases-loop-left g l = l.left
+abbrev pub invariant-loop : goal.invariant-loop
+invariant-loop g l = Steps (length l.s) l.counter l.fn.from l.t

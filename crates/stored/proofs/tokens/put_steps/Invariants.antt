@@ -1,11 +1,10 @@
 -- `stored::tokens::put_steps` meets its contract. Each turn puts one token more, and the scan has its line.
 use Rattle.std.proofs.Common.{◌≡◌, ◌-◌, ◌≤◌, length}
-use Rattle.token.specs.Lists.{lent}
-use Rattle.lexer.specs.Ready.{Ready}
+use Rattle.lexer.specs.Ready.{Lined}
 use Rattle.stored.proofs.tokens.put_steps.Given as goal
 
-abbrev pub invariant-loop-k : goal.invariant-loop-k
-invariant-loop-k l = (l.k ≤ length l.out) × (length l.out ≡ length l.initial.out) × Ready l.text (lent l.starts l.continues l.emoji) l.c
+abbrev pub invariant-loop-at : goal.invariant-loop-at
+invariant-loop-at l = (l.at ≤ length l.out) × (length l.out ≡ length l.initial.out) × Lined l.source.text l.scan
 
-abbrev pub decreases-loop-k : goal.decreases-loop-k
-decreases-loop-k l = length l.initial.out - l.k
+abbrev pub decreases-loop-at : goal.decreases-loop-at
+decreases-loop-at l = length l.initial.out - l.at

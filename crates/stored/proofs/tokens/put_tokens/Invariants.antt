@@ -2,8 +2,8 @@
 use Rattle.std.proofs.Common.{◌≡◌, ◌-◌, ◌≤◌, length}
 use Rattle.stored.proofs.tokens.put_tokens.Given as goal
 
-abbrev pub invariant-loop-scan : goal.invariant-loop-scan
-invariant-loop-scan l = (l.k ≤ length l.out) × (length l.out ≡ length l.initial.out)
+abbrev pub invariant-loop-next : goal.invariant-loop-next
+invariant-loop-next l = (l.at ≤ length l.out) × (length l.out ≡ length l.initial.out)
 
-abbrev pub decreases-loop-scan : goal.decreases-loop-scan
-decreases-loop-scan l = length l.initial.out - l.k
+abbrev pub decreases-loop-next : goal.decreases-loop-next
+decreases-loop-next l = length l.initial.out - l.at
