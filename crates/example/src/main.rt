@@ -1,40 +1,44 @@
 // An example for those who call the crates from Rattle: the key of a text, with empty lists and with those of a file, the tokens of a text, and a refusal explained.
-// No call asks anything of its caller: what has to be proved here is only that a part of an array lies within it, and that a loop ends.
+// No call asks anything of its caller: what has to be proved here is only that a part of an array lies within it.
 #![tactic(auto)]
 
-use key::KeyAnswer;
 use lists_file::Version;
-use lists_in::ReadAnswer;
-use plan::ListAnswer;
 use refusal::Numbers;
-use std::io;
 use std::io::Write;
+use std::{fmt, io};
 use token::{Token, TokenKind};
 
-// Why bytes are no character, by the second number beside refusal 2.
-fn say_cause<W: Write>(to: &mut W, cause: usize) -> io::Result<()> {
-    match cause {
-        1 => writeln!(to, "the byte there cannot start a character"),
-        2 => writeln!(to, "it ends inside a character"),
-        _ => writeln!(to, "a byte after the first is wrong"),
-    }
-}
+// A refusal by number, with what it means.
+#[derive(Clone, Copy)]
+struct Explained(Numbers);
 
-// A refusal by number, and what it means.
-fn explain<W: Write>(to: &mut W, n: Numbers) -> io::Result<()> {
-    let number = n.number;
-    let beside = n.beside;
-    write!(to, "refused with number {number} at byte {beside}")?;
-    match number {
-        2 => {
-            write!(to, ": the text is not UTF-8 there: ")?;
-            say_cause(to, n.second)
+impl fmt::Display for Explained {
+    fn fmt<W: fmt::Write>(&self, f: &mut fmt::Formatter<W>) -> fmt::Result {
+        let Numbers {
+            number,
+            beside,
+            second,
+        } = self.0;
+        write!(f, "refused with number {number} at byte {beside}")?;
+        match (number, second) {
+            (2, 1) => write!(
+                f,
+                ": the text is not UTF-8 there: the byte there cannot start a character"
+            ),
+            (2, 2) => write!(
+                f,
+                ": the text is not UTF-8 there: it ends inside a character"
+            ),
+            (2, _) => write!(
+                f,
+                ": the text is not UTF-8 there: a byte after the first is wrong"
+            ),
+            (6, _) => write!(
+                f,
+                ": a literal or a block comment begins there and does not end"
+            ),
+            _ => Ok(()),
         }
-        6 => writeln!(
-            to,
-            ": a literal or a block comment begins there and does not end"
-        ),
-        _ => writeln!(to),
     }
 }
 
@@ -49,27 +53,31 @@ fn say_key_by<W: Write>(
     let mut out = [0u8; 64];
     let answer = key::key(text, starts, continues, emoji, &mut out);
     match answer {
-        KeyAnswer::Keyed(n) => to.write_all(&out[..n]),
-        refused => explain(to, key::key_numbers(refused)),
+        Ok(n) => to.write_all(&out[..n]),
+        Err(_) => writeln!(to, "{}", Explained(key::key_numbers(answer))),
     }
 }
 
 // The key of a text, with empty lists.
 fn say_key<W: Write>(to: &mut W, text: &[u8]) -> io::Result<()> {
-    let none = [0u32; 0];
-    say_key_by(to, text, &none, &none, &none)
+    say_key_by(to, text, &[], &[], &[])
 }
 
 fn say_refused_lists<W: Write>(to: &mut W, n: Numbers) -> io::Result<()> {
-    let number = n.number;
-    let line = n.beside;
+    let Numbers {
+        number,
+        beside: line,
+        ..
+    } = n;
     writeln!(to, "lists refused with number {number}, line {line}")
 }
 
 fn say_version<W: Write>(to: &mut W, version: Version) -> io::Result<()> {
-    let major = version.major;
-    let minor = version.minor;
-    let update = version.update;
+    let Version {
+        major,
+        minor,
+        update,
+    } = version;
     writeln!(to, "lists of Unicode {major}.{minor}.{update}")
 }
 
@@ -79,16 +87,17 @@ fn say_key_with<W: Write>(to: &mut W, file: &[u8], text: &[u8]) -> io::Result<()
     let mut continues = [0u32; 8];
     let mut emoji = [0u32; 8];
     let read = lists_in::read_lists(file, &mut starts, &mut continues, &mut emoji);
-    match read {
-        ReadAnswer::Loaded(held) => {
-            let a = held.starts;
-            let b = held.continues;
-            let c = held.emoji;
-            say_version(to, held.version)?;
-            say_key_by(to, text, &starts[..a], &continues[..b], &emoji[..c])
-        }
-        refused => say_refused_lists(to, lists_in::read_numbers(refused)),
-    }
+    let Ok(held) = read else {
+        return say_refused_lists(to, lists_in::read_numbers(read));
+    };
+    say_version(to, held.version)?;
+    say_key_by(
+        to,
+        text,
+        &starts[..held.starts],
+        &continues[..held.continues],
+        &emoji[..held.emoji],
+    )
 }
 
 fn blank() -> Token {
@@ -101,29 +110,27 @@ fn blank() -> Token {
 }
 
 // A line for a token: the number of its kind, its length, its start and its line.
-fn say_token<W: Write>(to: &mut W, token: Token) -> io::Result<()> {
-    let kind = kinds::kind_number(token.kind);
-    let len = token.len;
-    let start = token.start;
-    let line = token.line;
-    writeln!(to, "{kind} {len} {start} {line}")
-}
-
-// A line for each of the first n tokens.
-fn say_each<W: Write>(to: &mut W, tokens: &[Token], n: usize) -> io::Result<()> {
-    for token in tokens.iter().take(n) {
-        say_token(to, *token)?;
-    }
-    Ok(())
+fn say_token<W: Write>(to: &mut W, token: &Token) -> io::Result<()> {
+    let Token {
+        kind,
+        len,
+        start,
+        line,
+    } = *token;
+    let number = kinds::kind_number(kind);
+    writeln!(to, "{number} {len} {start} {line}")
 }
 
 // The tokens of a text of at most 64, a line each.
 fn say_tokens<W: Write>(to: &mut W, text: &[u8]) -> io::Result<()> {
-    let none = [0u32; 0];
-    let records = list::tokenize_64(text, &none, &none, &none, false, blank());
+    let records = list::tokenize_64(text, &[], &[], &[], false, blank());
     match records.answer {
-        ListAnswer::Listed(n) => say_each(to, &records.tokens, n),
-        refused => explain(to, plan::list_numbers(refused)),
+        Ok(n) => records
+            .tokens
+            .iter()
+            .take(n)
+            .try_for_each(|token| say_token(to, token)),
+        Err(_) => writeln!(to, "{}", Explained(plan::list_numbers(records.answer))),
     }
 }
 

@@ -10,20 +10,16 @@ fn main(rt: HostRuntime) -> io::Result<()> {
     let mut continues = loading::list_room();
     let mut emoji = loading::list_room();
     let mut to = rt.stdout();
-    let lists = loading::load(&rt, &mut to, &mut starts, &mut continues, &mut emoji)?;
-    if !lists.done {
+    let Some(held) = loading::load(&rt, &mut to, &mut starts, &mut continues, &mut emoji)? else {
         return Ok(());
-    }
-    let mut buf = printing::input_room();
+    };
+    let mut buf: [u8; printing::INPUT_ROOM] = input::filled(0);
     let n = input::read_full(&mut rt.stdin(), &mut buf)?;
-    let a = lists.starts;
-    let b = lists.continues;
-    let c = lists.emoji;
     printing::say_key(
         &mut to,
         &buf[..n],
-        &starts[..a],
-        &continues[..b],
-        &emoji[..c],
+        &starts[..held.starts],
+        &continues[..held.continues],
+        &emoji[..held.emoji],
     )
 }

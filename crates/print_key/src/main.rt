@@ -7,7 +7,7 @@ use std::io;
 
 fn main(rt: HostRuntime) -> io::Result<()> {
     let empty = [0u32; 0];
-    let mut buf = printing::input_room();
+    let mut buf: [u8; printing::INPUT_ROOM] = input::filled(0);
     let n = input::read_full(&mut rt.stdin(), &mut buf)?;
     printing::say_key(&mut rt.stdout(), &buf[..n], &empty, &empty, &empty)
 }

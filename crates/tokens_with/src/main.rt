@@ -3,21 +3,12 @@
 // (`loading`), whatever the text is.
 #![tactic(auto)]
 
-ghost use Rattle.std.specs.Prelude.{◌≡◌, length};
-
 use std::env::Env;
 use std::io;
 
-// Zeros for an argument.
-fn word_room() -> [u8; 4096]
-    ensures { 4096 ≡ length result }
-{
-    [0; 4096]
-}
-
 // Whether the second argument is the word `lines`.
 fn wants_lines<R: Env>(rt: &R) -> bool {
-    let mut word = word_room();
+    let mut word: [u8; 4096] = input::filled(0);
     match rt.arg(2, &mut word) {
         Ok(n) => fields::is_word(&word[..n], b"lines"),
         Err(_) => false,
@@ -29,21 +20,17 @@ fn main(rt: HostRuntime) -> io::Result<()> {
     let mut continues = loading::list_room();
     let mut emoji = loading::list_room();
     let mut to = rt.stdout();
-    let lists = loading::load(&rt, &mut to, &mut starts, &mut continues, &mut emoji)?;
-    if !lists.done {
+    let Some(held) = loading::load(&rt, &mut to, &mut starts, &mut continues, &mut emoji)? else {
         return Ok(());
-    }
-    let mut buf = printing::input_room();
+    };
+    let mut buf: [u8; printing::INPUT_ROOM] = input::filled(0);
     let n = input::read_full(&mut rt.stdin(), &mut buf)?;
-    let a = lists.starts;
-    let b = lists.continues;
-    let c = lists.emoji;
     printing::say_tokens(
         &mut to,
         &buf[..n],
-        &starts[..a],
-        &continues[..b],
-        &emoji[..c],
+        &starts[..held.starts],
+        &continues[..held.continues],
+        &emoji[..held.emoji],
         wants_lines(&rt),
     )
 }
