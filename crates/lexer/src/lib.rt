@@ -73,7 +73,7 @@ impl<'a> Source<'a> {
         ensures lined { Lined self.now.text result }
     {
         let _ = &self.text;
-        before_in(0, 0, on)
+        start(on)
     }
 }
 
