@@ -1,4 +1,7 @@
 // The public call for one token, with its refusals, and the step for loops over a text that was checked once.
+//
+// A position and the flag of frontmatter stand as two parameters (`at`, `on`) where 000's call has them so; what goes from token to token is a `Scan`. The
+// calls that check, `token_verdict` and `advance_token`, take the three lists as a caller has them: what comes out of the check is a `Source`.
 #![tactic(auto)]
 
 ghost use Rattle.std.specs.Prelude.{◌≡◌, ◌≤◌, length};
@@ -111,11 +114,11 @@ fn kind_from(kind: Kinded, from: Cursor) -> TokenKind
     }
 }
 
-// The token at a position of a text within the limit, without its place. The end is answered first.
-fn bare_in(text: &[u8], lists: &Lists, at: usize, on: bool) -> Bare
-    requires { length text.now ≤ 4294967295 }
-    ensures { result ≡ bare_at lists.now text.now at on }
+// The token at a position of a text that was checked, without its place: for loops that need no lines. The end is answered first.
+pub fn bare_token(source: &Source, at: usize, on: bool) -> Bare
+    ensures { result ≡ bare_at source.now.lists source.now.text at on }
 {
+    let text = source.text;
     let Some((first, from)) = Cursor::new(at).peek(text) else {
         return Bare {
             kind: TokenKind::Eof,
@@ -124,10 +127,9 @@ fn bare_in(text: &[u8], lists: &Lists, at: usize, on: bool) -> Bare
             on,
         };
     };
-    let scanned = advance::advance_token(text, first, from, on, lists);
-    let kinded = scanned.kind;
+    let scanned = advance::advance_token(text, first, from, on, &source.lists);
     let next = scanned.next.place();
-    let kind = kind_from(kinded, from);
+    let kind = kind_from(scanned.kind, from);
     // made whole before it is handed back: so the compiler writes the kind in one piece, and a key takes 6 % less time
     let found = Bare {
         kind,
@@ -136,13 +138,6 @@ fn bare_in(text: &[u8], lists: &Lists, at: usize, on: bool) -> Bare
         on: advance::stays_on(on, kind),
     };
     found
-}
-
-// The token at a position of a text that was checked, without its place: for loops that need no lines.
-pub fn bare_token(source: &Source, at: usize, on: bool) -> Bare
-    ensures { result ≡ bare_at source.now.lists source.now.text at on }
-{
-    bare_in(source.text, &source.lists, at, on)
 }
 
 // Before the token at a position in line `line`: in its place Eof, of no length.
@@ -162,7 +157,8 @@ fn before_in(at: usize, line: u32, on: bool) -> Scan
     }
 }
 
-// Before the token at a position of a text within the limit. The lines are counted from the text's beginning.
+// Before the token at a position of a text within the limit. The lines are counted from the text's beginning. It takes the text, as the guide says: only the
+// length is asked, and no lists.
 pub fn before(text: &[u8], at: usize, on: bool) -> Scan
     requires { (at ≤ length text.now) × (length text.now ≤ 4294967295) }
     ensures { result ≡ before_of text.now at on }
@@ -182,13 +178,13 @@ fn next_line(text: &[u8], c: Scan) -> u32
     requires { Lined text.now c }
     ensures { result ≡ feeds_before text.now c.next }
 {
-    let token = c.token;
-    let from = token.start;
+    let from = c.token.start;
     let to = c.next;
-    token.line + line_feeds::count(&text[from..to])
+    c.token.line + line_feeds::count(&text[from..to])
 }
 
-// The scan past a scan of a text that was checked. What is handed back goes on in the text too.
+// The scan past a scan of a text that was checked. What is handed back goes on in the text too. A `From` could not make the token: what is found has no start and
+// no line.
 pub fn step(source: &Source, c: Scan) -> Scan
     requires { Lined source.now.text c }
     ensures token { result ≡ next_of source.now.lists source.now.text c }
@@ -197,9 +193,8 @@ pub fn step(source: &Source, c: Scan) -> Scan
     let line = next_line(source.text(), c);
     let start = c.next;
     let found = bare_token(source, start, c.on);
-    let kind = found.kind;
     let token = Token {
-        kind,
+        kind: found.kind,
         len: found.len,
         start,
         line,
@@ -211,7 +206,8 @@ pub fn step(source: &Source, c: Scan) -> Scan
     }
 }
 
-// The answer of the one-token call by number: the position past the token, and 1 where frontmatter is on there; or the refusal.
+// The answer of the one-token call by number: the position past the token, and 1 where frontmatter is on there; or the refusal. Named as its rule, and no
+// `From`: the guide calls it, and the answer's type is none of this crate's.
 pub fn token_numbers(answer: Result<Scan, PlaceRefusal>) -> Numbers
     ensures { result ≡ token_numbers answer }
 {

@@ -1,9 +1,9 @@
--- `lexer::bare_in` meets its contract. The end, or what the decision over the first character gives, in bytes (Scanning).
+-- `lexer::bare_token` meets its contract. The end, or what the decision over the first character gives, in bytes (Scanning).
 use Rattle.lexer.proofs.Scanning.{at_end, kind_narrow, not_before, len_narrow, scanned}
-use Rattle.lexer.proofs.bare_in.Goals as goal
+use Rattle.lexer.proofs.bare_token.Goals as goal
 
 pub returns-in_default : goal.returns-in_default
-returns-in_default c = search at_end
+returns-in_default c = rw (← c.source.view_is) (search at_end)
 
 pub kind_from-kind-requires : goal.kind_from-kind-requires
 kind_from-kind-requires c = search kind_narrow
@@ -15,4 +15,4 @@ pub narrow-requires : goal.narrow-requires
 narrow-requires c = search len_narrow
 
 pub returns : goal.returns
-returns c = search scanned
+returns c = rw (← c.source.view_is) (search scanned)
