@@ -1,2 +1,3 @@
 mod Arms
 mod Fronts
+mod Stays

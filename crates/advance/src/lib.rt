@@ -7,45 +7,24 @@ ghost use Rattle.basics.specs.Choice.{and};
 ghost use Rattle.token.specs.Punctuation.{pound};
 ghost use Rattle.token.specs.Advance;
 ghost use Rattle.token.specs.Advance.{decided, stays};
-ghost use Rattle.cursor.specs.declared.Kinded.TheVariants as kinded;
 ghost use Rattle.cursor.specs.Cursors.{rest};
 ghost use Rattle.cursor.specs.Ran.{Ran, Begun};
 ghost use Rattle.advance.specs.Arms.{guards, Symbolic, Led, fence};
 
-use cursor::{Cursor, Kinded, Lexed, Scanned};
+use cursor::{Cursor, Lexed, Scanned};
 use lists::Lists;
 use literals::Form;
 use text::CodePoint;
 use token::TokenKind;
-
-// A token that is not a literal.
-fn whole(lexed: Lexed) -> Scanned
-    ensures { result ≡ record { kind = kinded.Plain lexed.kind; next = lexed.next } }
-{
-    Scanned {
-        kind: Kinded::Plain(lexed.kind),
-        next: lexed.next,
-    }
-}
-
-// A token that is not a literal and ends at the cursor.
-fn only(kind: TokenKind, from: Cursor) -> Scanned
-    ensures { result ≡ record { kind = kinded.Plain kind; next = from } }
-{
-    Scanned {
-        kind: Kinded::Plain(kind),
-        next: from,
-    }
-}
 
 // What a hash begins, after it: a hash or a quote makes it the prefix of a guarded string.
 fn after_hash(text: &[u8], from: Cursor) -> Scanned
     ensures { Begun pound text.now from result }
 {
     if token::is_hash_or_quote(from.first(text)) {
-        return only(TokenKind::GuardedStrPrefix, from.bump(text));
+        return Scanned::plain(TokenKind::GuardedStrPrefix, from.bump(text));
     }
-    only(TokenKind::Pound, from)
+    Scanned::plain(TokenKind::Pound, from)
 }
 
 // What any other character begins: whitespace, an identifier, an invalid one, or an unknown token.
@@ -53,15 +32,15 @@ fn other(text: &[u8], c: CodePoint, from: Cursor, lists: &Lists) -> Scanned
     ensures { Begun (guards lists.now c) text.now from result }
 {
     if classes::is_whitespace(c) {
-        return whole(comment::whitespace(text, from));
+        return comment::whitespace(text, from).into();
     }
     if lists.is_start(c) {
-        return whole(words::ident_or_unknown_prefix(text, from, lists));
+        return words::ident_or_unknown_prefix(text, from, lists).into();
     }
     if lists.is_emoji(c) {
-        return whole(words::invalid_ident(text, from, lists));
+        return words::invalid_ident(text, from, lists).into();
     }
-    only(TokenKind::Unknown, from)
+    Scanned::plain(TokenKind::Unknown, from)
 }
 
 // The kind of token that c is alone, if it is a symbol. A hash is none here: it may be the prefix of a guarded string.
@@ -104,7 +83,7 @@ fn plain(text: &[u8], c: CodePoint, from: Cursor, lists: &Lists) -> Scanned
     ensures { Begun (Advance.plain lists.now c) text.now from result }
 {
     match c {
-        0x2F => whole(comment::slash(text, from)),
+        0x2F => comment::slash(text, from).into(),
         0x72 => prefixed::after_r(text, from, lists),
         0x6B => prefixed::after_k(text, from, lists),
         0x62 => prefixed::after_b(text, from, lists),
@@ -114,7 +93,7 @@ fn plain(text: &[u8], c: CodePoint, from: Cursor, lists: &Lists) -> Scanned
         0x27 => prefixed::lifetime_or_char(text, from, lists),
         0x22 => literals::double_literal(text, from, Form::Plain, lists),
         _ => match symbol(c) {
-            Some(kind) => only(kind, from),
+            Some(kind) => Scanned::plain(kind, from),
             None => other(text, c, from, lists),
         },
     }
@@ -170,10 +149,10 @@ fn fronted(text: &[u8], c: CodePoint, from: Cursor, lists: &Lists) -> Scanned
     ensures { Begun (Advance.fronted lists.now c) text.now from result }
 {
     if classes::is_whitespace(c) {
-        return whole(leading(text, c, from, lists));
+        return leading(text, c, from, lists).into();
     }
     if opens(text, c, from) {
-        return whole(frontmatter::frontmatter(text, from, false, lists));
+        return frontmatter::frontmatter(text, from, false, lists).into();
     }
     plain(text, c, from, lists)
 }

@@ -4,6 +4,7 @@
 #![tactic(auto)]
 
 ghost use Rattle.std.specs.Prelude.{◌≤◌, ◌≡◌, get_or, drop};
+ghost use Rattle.cursor.specs.declared.Kinded.TheVariants as kinded;
 ghost use Rattle.cursor.specs.Cursors.{rest, Seen};
 ghost use Rattle.cursor.specs.Moved.{Moved};
 ghost use Rattle.cursor.specs.Wanted.{AteWhile};
@@ -37,6 +38,26 @@ pub enum Kinded {
 pub struct Scanned {
     pub kind: Kinded,
     pub next: Cursor,
+}
+
+impl Scanned {
+    // A token that is not a literal and ends at the cursor.
+    pub fn plain(kind: TokenKind, next: Cursor) -> Scanned
+        ensures { result ≡ record { kind = kinded.Plain kind; next = next } }
+    {
+        Scanned {
+            kind: Kinded::Plain(kind),
+            next,
+        }
+    }
+}
+
+impl From<Lexed> for Scanned {
+    ghost from_gives = { λ lexed scanned. scanned ≡ record { kind = kinded.Plain lexed.kind; next = lexed.next } };
+
+    fn from(lexed: Lexed) -> Scanned {
+        Scanned::plain(lexed.kind, lexed.next)
+    }
 }
 
 // What a search for an end gives: the cursor past it, and whether it was found. No Option: the cursor is given in either case.

@@ -12,7 +12,7 @@ ghost use Rattle.token.specs.Prefixed.{after_r, after_k, after_c, after_b};
 ghost use Rattle.cursor.specs.Ran.{Begun};
 ghost use Rattle.literals.specs.Forms.{double_kind, raw_kind};
 
-use cursor::{Cursor, Kinded, Scanned};
+use cursor::{Cursor, Scanned};
 use lists::Lists;
 use literals::Form;
 use text::CodePoint;
@@ -47,11 +47,7 @@ fn is_raw(c: CodePoint, d: CodePoint) -> bool
 fn word(text: &[u8], from: Cursor, lists: &Lists) -> Scanned
     ensures { Begun (ident_or_unknown_prefix lists.now) text.now from result }
 {
-    let lexed = words::ident_or_unknown_prefix(text, from, lists);
-    Scanned {
-        kind: Kinded::Plain(lexed.kind),
-        next: lexed.next,
-    }
+    words::ident_or_unknown_prefix(text, from, lists).into()
 }
 
 // What the letter r begins: a raw identifier, a raw string or a word.
@@ -61,10 +57,8 @@ pub fn after_r(text: &[u8], from: Cursor, lists: &Lists) -> Scanned
     let c = from.first(text);
     let d = from.second(text);
     if is_raw_name(c, d, lists) {
-        return Scanned {
-            kind: Kinded::Plain(TokenKind::RawIdent),
-            next: words::eat_identifier(text, from.bump(text), lists),
-        };
+        let next = words::eat_identifier(text, from.bump(text), lists);
+        return Scanned::plain(TokenKind::RawIdent, next);
     }
     if token::is_hash_or_quote(c) {
         return literals::raw_literal(text, from, Form::Plain, lists);
@@ -79,10 +73,8 @@ pub fn after_k(text: &[u8], from: Cursor, lists: &Lists) -> Scanned
     let c = from.first(text);
     let d = from.second(text);
     if is_raw_name(c, d, lists) {
-        return Scanned {
-            kind: Kinded::Plain(TokenKind::ForcedKeywordIdent),
-            next: words::eat_identifier(text, from.bump(text), lists),
-        };
+        let next = words::eat_identifier(text, from.bump(text), lists);
+        return Scanned::plain(TokenKind::ForcedKeywordIdent, next);
     }
     word(text, from, lists)
 }

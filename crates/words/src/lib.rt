@@ -96,18 +96,12 @@ fn lifetime_rest(text: &[u8], from: Cursor, numbered: bool, lists: &Lists) -> Sc
         };
     }
     if c == 0x23 && !numbered {
-        return Scanned {
-            kind: Kinded::Plain(TokenKind::UnknownPrefixLifetime),
-            next,
-        };
+        return Scanned::plain(TokenKind::UnknownPrefixLifetime, next);
     }
     let kind = TokenKind::Lifetime {
         starts_with_number: numbered,
     };
-    Scanned {
-        kind: Kinded::Plain(kind),
-        next,
-    }
+    Scanned::plain(kind, next)
 }
 
 // A raw lifetime, from its hash on: the hash, the start of an identifier and what goes on in it.
@@ -122,10 +116,7 @@ fn after_quote_r(text: &[u8], from: Cursor, lists: &Lists) -> Scanned
     ensures { RawNameRan lists.now text.now from result }
 {
     if from.first(text) == 0x23 && lists.is_start(from.second(text)) {
-        return Scanned {
-            kind: Kinded::Plain(TokenKind::RawLifetime),
-            next: raw_lifetime(text, from, lists),
-        };
+        return Scanned::plain(TokenKind::RawLifetime, raw_lifetime(text, from, lists));
     }
     lifetime_rest(text, from, false, lists)
 }

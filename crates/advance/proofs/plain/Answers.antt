@@ -34,7 +34,7 @@ pub returns-in-48-to-57 : goal.returns-in-48-to-57
 returns-in-48-to-57 c = digit_in _ (omega arith) (omega arith) c.number_literal.ensures
 
 pub returns-in-Some : goal.returns-in-Some
-returns-in-Some c = symbol_in _ _ c.in-Some.ensures (search rules) c.only.ensures
+returns-in-Some c = symbol_in _ _ c.in-Some.ensures (search rules) c.plain.ensures
 
 pub returns-in-None : goal.returns-in-None
 returns-in-None c =

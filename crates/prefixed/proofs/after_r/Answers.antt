@@ -3,7 +3,7 @@ use Rattle.prefixed.proofs.Rules.{raw_name_in, raw_in, no_raw_in}
 use Rattle.prefixed.proofs.after_r.Goals as goal
 
 pub returns-then-is_raw_name : goal.returns-then-is_raw_name
-returns-then-is_raw_name c = search raw_name_in
+returns-then-is_raw_name c = rw c.plain.ensures (search raw_name_in)
 
 pub returns-then-is_hash_or_quote : goal.returns-then-is_hash_or_quote
 returns-then-is_hash_or_quote c = search raw_in

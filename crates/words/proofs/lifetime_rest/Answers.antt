@@ -7,7 +7,7 @@ pub returns-then-c-eq39 : goal.returns-then-c-eq39
 returns-then-c-eq39 c = search closed_in
 
 pub returns-then-not-numbered : goal.returns-then-not-numbered
-returns-then-not-numbered c = search prefixed_in
+returns-then-not-numbered c = rw c.plain.ensures (search prefixed_in)
 
 pub returns : goal.returns
-returns c = elim c.else-c-eq35.branch [ else-c-eq35-via-then-c-eq35+else-not-numbered w ↦ search numbered_in | else-c-eq35-via-else-c-eq35 w ↦ search lifetime_in ]
+returns c = elim c.else-c-eq35.branch [ else-c-eq35-via-then-c-eq35+else-not-numbered w ↦ rw c.plain-2.ensures (search numbered_in) | else-c-eq35-via-else-c-eq35 w ↦ rw c.plain-2.ensures (search lifetime_in) ]
