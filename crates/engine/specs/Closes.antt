@@ -25,7 +25,7 @@ abbrev pub need_in : Result → Need
 need_in (ok rest) = Ok (length rest)
 need_in (bad place) = mending place
 
--- the lists are good, the places fit 32 bits; and where the rest is to be written, there is one, and room for it
+-- the places fit 32 bits; and where the rest is to be written, there is one, and room for it
 pub record Closing (writing : Bool) (L : Lists) (s : State) (text out : List ℕ) : Type 0 where
   pub shallow : deepest s.mode ≤ s.at
   pub short : s.at + length text ≤ 4294967295

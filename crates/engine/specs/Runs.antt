@@ -18,7 +18,7 @@ state mode from at = record { mode = mode; from = from; at = at }
 abbrev pub fed_by : Lists → State → (text : List ℕ) → stream.Fed State
 fed_by L s text = feed L s (replaced (chars text))
 
--- the lists are good, the places fit 32 bits, and there is room for what is written
+-- the places fit 32 bits, and there is room for what is written
 pub record Feeding (writing : Bool) (L : Lists) (s : State) (text out : List ℕ) : Type 0 where
   pub shallow : deepest s.mode ≤ s.at
   pub short : s.at + length text ≤ 4294967295

@@ -18,7 +18,7 @@ need_for nowhere bytes = Ok bytes
 abbrev pub need_of : Lists → (s : List ℕ) → Need
 need_of L s = need_for (broken_at L s) (length (key_of L s))
 
--- the text is UTF-8 within the limit, the lists are good; and where the key is to be written, there is one, and room for it
+-- the text is UTF-8 within the limit; and where the key is to be written, there is one, and room for it
 pub record KeyReady (writing : Bool) (L : Lists) (text out : List ℕ) : Type 0 where
   pub fits : length text ≤ 4294967295
   pub well : WellFormed text
