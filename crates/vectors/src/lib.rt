@@ -5,7 +5,7 @@
 // judged by the stored answers themselves.
 #![tactic(auto)]
 
-ghost use Rattle.std.specs.Prelude.{◌≡◌, ◌+◌, ◌*◌, ◌≤◌, length, IfSome};
+ghost use Rattle.std.specs.Prelude.{◌≡◌, ◌+◌, ◌*◌, ◌≤◌, length, IfSome, MatchOption, ◌<◌, drop};
 ghost use Rattle.vectors.specs.Placed.{Placed, VectorPlaced};
 
 use refusal::Numbers;
@@ -27,7 +27,8 @@ pub struct Vector {
 
 // The number in the first four bytes, lowest first, and the bytes after it.
 pub fn split_number(s: &[u8]) -> Option<(u32, &[u8])>
-    ensures { IfSome result (λ r. length r.1.now + 4 ≡ length s.now) }
+    ensures rest { MatchOption result (length s.now < 4) (λ r. r.1.now ≡ drop 4 s.now) }
+    ensures room { IfSome result (λ r. length r.1.now + 4 ≡ length s.now) }
 {
     let (four, rest) = s.split_first_chunk::<4>()?;
     Some((u32::from_le_bytes(*four), rest))
