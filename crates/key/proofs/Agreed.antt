@@ -25,7 +25,7 @@ module _ {limit : ℕ} {s : List ℕ} {L : Lists} {before after : List ℕ} {r :
   pub keeps_rest : drop (length (key_of L (replaced s))) after ≡ drop (length (key_of L (replaced s))) before
   keeps_rest = ap (drop (length (key_of L (replaced s)))) (keyed h k).holds ∙ drop_at (key_of L (replaced s)) (drop (length (key_of L (replaced s))) before) (length (key_of L (replaced s))) refl
 
--- TWO CALLS with the same lists that answered `Keyed`: they wrote the same bytes exactly when the replaced texts agree
+-- TWO CALLS with the same lists that answered `Ok`: they wrote the same bytes exactly when the replaced texts agree
 pub agreed_keys : {limit : ℕ} {s t : List ℕ} {L : Lists} {before after before' after' : List ℕ} {n m : ℕ} → Keying limit s L before after (Ok n) → Keying limit t L before' after' (Ok m)
     → (take n after ≡ take m after') ↔ Agree L (replaced s) (replaced t)
 agreed_keys {limit} {s} {t} {L} j k =
@@ -33,7 +33,7 @@ agreed_keys {limit} {s} {t} {L} j k =
     let a = agree_is L (replaced s) (replaced t) in
     ((λ e. a.1 (c.0 e)), (λ x. c.1 (a.0 x)))
 
--- TWO VALID TEXTS without CR CR LF, hidden marks and broken tokens, the same valid lists, and room for each key: both calls answer `Keyed` with their key's bytes, and they wrote the same
+-- TWO VALID TEXTS without CR CR LF, hidden marks and broken tokens, the same valid lists, and room for each key: both calls answer `Ok` with their key's bytes, and they wrote the same
 -- bytes exactly when the replaced texts agree
 module _ {limit : ℕ} {s t : List ℕ} {L : Lists} {before after before' after' : List ℕ} {r q : KeyAnswer} (a : HasKey limit s L before) (b : HasKey limit t L before') (j : Keying limit s L before after r) (k : Keying limit t L before' after' q) where
   pub both_keyed : (r ≡ Ok (length (key_of L (replaced s)))) × (q ≡ Ok (length (key_of L (replaced t))))

@@ -1,5 +1,5 @@
 -- THE KEY IS CANONICAL, said of the call: what it wrote for two texts, what it writes for a key, and how long a key is. `take n after` are the bytes
--- that a call wrote which answered `Keyed n`.
+-- that a call wrote which answered `Ok n`.
 use Rattle.std.specs.Prelude.{Ok}
 use Prim.Native.Nat.{ℕ, ◌≤◌}
 use mathlib.Core.Path.{◌≡◌, sym, ap, subst, ◌∙◌}
@@ -33,7 +33,7 @@ use Rattle.key.proofs.Valids.{fine_valid, valid_fine, keyed_answer}
 fair_of : (limit : ℕ) (s : List ℕ) (L : Lists) → token_verdict limit s L ≡ fine → Fair L
 fair_of limit s L e = (fine_valid limit s L e).starts.rules
 
--- ONE CALL that answered `Keyed n`
+-- ONE CALL that answered `Ok n`
 module _ {limit : ℕ} {s : List ℕ} {L : Lists} {before after : List ℕ} {n : ℕ} (k : Keying limit s L before after (Ok n)) where
   told : Done limit s L (length before) n
   told = done k.answer

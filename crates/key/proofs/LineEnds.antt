@@ -19,7 +19,7 @@ use Rattle.key.proofs.Fits.{done}
 use Rattle.key.proofs.Canonical.{wrote_key}
 use Rattle.key.proofs.Valids.{fine_valid}
 
--- TWO CALLS with the same lists that answered `Keyed`: they wrote the same bytes
+-- TWO CALLS with the same lists that answered `Ok`: they wrote the same bytes
 pub twins_keys : {limit : ℕ} {s t : List ℕ} {L : Lists} {before after before' after' : List ℕ} {n m : ℕ} → Twins s t → Keying limit s L before after (Ok n) → Keying limit t L before' after' (Ok m)
     → (n ≡ m) × (take n after ≡ take m after')
 twins_keys {L = L} w j k =
