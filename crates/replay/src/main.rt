@@ -41,7 +41,7 @@ fn say_bad<W: Write>(to: &mut W, at: usize) -> io::Result<()> {
     writeln!(to, "differs at {at}")
 }
 
-// Whether the answer of an operation on a part of a file is the answer that stands in another part.
+// Whether the answer of an operation on a part of a file is the answer that stands in another part; where it has none, whether that part is empty.
 fn agrees(s: &[u8], v: Vector, lists: Lent, out: &mut [u8]) -> bool
     requires { Within (length s.now) v.input × Within (length s.now) v.answer }
 {
@@ -49,7 +49,7 @@ fn agrees(s: &[u8], v: Vector, lists: Lent, out: &mut [u8]) -> bool
     let answer = &s[v.answer.from..v.answer.to];
     match stored::answer(v.operation, input, lists, out) {
         Some(k) => &out[..k] == answer,
-        None => false,
+        None => answer.is_empty(),
     }
 }
 
@@ -131,7 +131,7 @@ fn head_at(s: &[u8], at: usize) -> Option<Head>
     let starts = vectors::numbers_at(s, at)?;
     let continues = vectors::numbers_at(s, starts.to)?;
     let emoji = vectors::numbers_at(s, continues.to)?;
-    let count = vectors::number(s, emoji.to)?;
+    let count = vectors::number_at(s, emoji.to)?;
     Some(Head {
         starts,
         continues,
@@ -192,6 +192,11 @@ fn say<W: Write>(to: &mut W, t: Tally) -> io::Result<()> {
     writeln!(to, ": {same} agree, {other} differ")
 }
 
+fn say_out_of_form<W: Write>(to: &mut W, t: Tally) -> io::Result<()> {
+    say(to, t)?;
+    writeln!(to, "the file is out of form")
+}
+
 // The file at a path. Where it cannot be opened there is none, and standard error says why.
 fn opened<R: Files + Eprint>(rt: &R, path: &[u8]) -> io::Result<Option<R::File>> {
     let Ok(name) = str::from_utf8(path) else {
@@ -230,8 +235,7 @@ fn said<R: Files + Eprint, W: Write>(rt: &R, to: &mut W, path: &[u8]) -> io::Res
             Ok(t)
         }
         Err(Stop::OutOfForm(t)) => {
-            say(to, t)?;
-            writeln!(to, "the file is out of form")?;
+            say_out_of_form(to, t)?;
             Ok(t)
         }
         Err(Stop::Output(why)) => Err(why),
@@ -253,19 +257,24 @@ fn argument<R: Env + Files + Eprint, W: Write>(
     Ok(Some(said(rt, to, &path[..n])?))
 }
 
+// Where no file is named, that is said as of one that is not there.
 fn main(rt: HostRuntime) -> io::Result<()> {
     let mut to = rt.stdout();
-    let mut sum = nothing();
+    let mut sum: Option<Tally> = None;
     for i in 1..usize::MAX {
         let Some(t) = argument(&rt, &mut to, i)? else {
             break;
         };
-        sum = Tally {
+        let before = sum.unwrap_or(nothing());
+        sum = Some(Tally {
             at: 0,
-            same: sum.same.wrapping_add(t.same),
-            other: sum.other.wrapping_add(t.other),
-        };
+            same: before.same.wrapping_add(t.same),
+            other: before.other.wrapping_add(t.other),
+        });
     }
     write!(to, "in all")?;
-    say(&mut to, sum)
+    match sum {
+        Some(t) => say(&mut to, t),
+        None => say_out_of_form(&mut to, nothing()),
+    }
 }

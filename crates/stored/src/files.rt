@@ -115,22 +115,21 @@ fn write_over(version: Version, lists: Lent, buffer: &mut [u8], out: &mut [u8]) 
 }
 
 // The low 16 bits of the number at a place.
-fn sixteen(input: &[u8], at: usize) -> Option<u16> {
-    let n = vectors::number(input, at)?;
-    Some((n % 0x10000) as u16)
+fn sixteen(input: &[u8], at: usize) -> u16 {
+    (vectors::number(input, at) % 0x10000) as u16
 }
 
-// Operation 19: the writer over n bytes, each of which held the same one before.
+// Operation 19: the writer over n bytes, each of which held the same one before. A number that is not handed in is 0.
 pub fn write(input: &[u8], lists: Lent, out: &mut [u8]) -> Option<usize>
     ensures { IfSome result (λ n. n ≤ length out.new) }
 {
     let version = Version {
-        major: sixteen(input, 0)?,
-        minor: sixteen(input, 4)?,
-        update: sixteen(input, 8)?,
+        major: sixteen(input, 0),
+        minor: sixteen(input, 4),
+        update: sixteen(input, 8),
     };
-    let room = vectors::number(input, 12)?;
-    let byte = u8::try_from(vectors::number(input, 16)?).ok()?;
+    let room = vectors::number(input, 12);
+    let byte = u8::try_from(vectors::number(input, 16)).ok()?;
     let mut buffer: [u8; 262000] = input::filled(byte);
     write_over(version, lists, buffer.get_mut(..room as usize)?, out)
 }

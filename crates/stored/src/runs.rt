@@ -31,12 +31,12 @@ fn class_run(operation: u32, low: u32, high: u32, lists: Lent) -> Numbers {
     }
 }
 
-// Operations 3 to 7: a class of every number from one to another.
+// Operations 3 to 7: a class of every number from one to another. One that is not handed in is 0.
 pub fn of_class(operation: u32, input: &[u8], lists: Lent, out: &mut [u8]) -> Option<usize>
     ensures { IfSome result (λ n. n ≤ length out.new) }
 {
-    let low = vectors::number(input, 0)?;
-    let high = vectors::number(input, 4)?;
+    let low = vectors::number(input, 0);
+    let high = vectors::number(input, 4);
     vectors::put_numbers(out, class_run(operation, low, high, lists))
 }
 

@@ -35,11 +35,16 @@ pub fn split_number(s: &[u8]) -> Option<(u32, &[u8])>
 }
 
 // The number in the four bytes at a place.
-pub fn number(s: &[u8], at: usize) -> Option<u32>
+pub fn number_at(s: &[u8], at: usize) -> Option<u32>
     ensures { IfSome result (λ n. at + 4 ≤ length s.now) }
 {
     let (n, _) = split_number(s.get(at..)?)?;
     Some(n)
+}
+
+// The same; 0 where the bytes are not there.
+pub fn number(s: &[u8], at: usize) -> u32 {
+    number_at(s, at).unwrap_or(0)
 }
 
 // n bytes, after the four bytes at a place.
@@ -58,7 +63,7 @@ fn after_number(s: &[u8], at: usize, n: usize) -> Option<Part>
 fn bytes_at(s: &[u8], at: usize) -> Option<Part>
     ensures { IfSome result (Placed (length s.now) at) }
 {
-    let n = number(s, at)?;
+    let n = number_at(s, at)?;
     after_number(s, at, n as usize)
 }
 
@@ -66,7 +71,7 @@ fn bytes_at(s: &[u8], at: usize) -> Option<Part>
 pub fn numbers_at(s: &[u8], at: usize) -> Option<Part>
     ensures { IfSome result (Placed (length s.now) at) }
 {
-    let n = number(s, at)?;
+    let n = number_at(s, at)?;
     after_number(s, at, n as usize * 4)
 }
 
@@ -74,7 +79,7 @@ pub fn numbers_at(s: &[u8], at: usize) -> Option<Part>
 pub fn vector_at(s: &[u8], at: usize) -> Option<Vector>
     ensures { IfSome result (VectorPlaced (length s.now) at) }
 {
-    let operation = number(s, at)?;
+    let operation = number_at(s, at)?;
     let input = bytes_at(s, at + 4)?;
     let answer = bytes_at(s, input.to)?;
     Some(Vector {
