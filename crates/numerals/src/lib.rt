@@ -58,8 +58,7 @@ fn eat_digits(text: &[u8], from: Cursor, base: Base) -> Digits
 fn eat_sign(text: &[u8], from: Cursor) -> Cursor
     ensures { Ran sign text.now from result tt }
 {
-    let c = from.first(text);
-    match c {
+    match from.first(text) {
         0x2B | 0x2D => from.bump(text),
         _ => from,
     }
@@ -83,8 +82,7 @@ fn eat_float_exponent(text: &[u8], from: Cursor, base: Base) -> Numeral
 fn maybe_exponent(text: &[u8], from: Cursor, base: Base, otherwise: LiteralKind) -> Numeral
     ensures { Ran (maybe_exponent base (record { kind = otherwise; suffixed = true })) text.now from result.next (record { kind = result.kind; suffixed = true }) }
 {
-    let c = from.first(text);
-    match c {
+    match from.first(text) {
         0x45 | 0x65 => eat_float_exponent(text, from.bump(text), base),
         _ => Numeral {
             kind: otherwise,
@@ -101,8 +99,7 @@ fn after_point(text: &[u8], from: Cursor, base: Base) -> Numeral
         base,
         empty_exponent: false,
     };
-    let c = from.first(text);
-    if classes::is_digit(c) {
+    if classes::is_digit(from.first(text)) {
         let digits = eat_digits(text, from, Base::Decimal);
         return maybe_exponent(text, digits.next, base, kind);
     }
@@ -117,8 +114,7 @@ fn fraction(text: &[u8], from: Cursor, base: Base, lists: &Lists) -> Numeral
         base,
         empty_int: false,
     };
-    let c = from.first(text);
-    if c != 0x2E {
+    if from.first(text) != 0x2E {
         return maybe_exponent(text, from, base, kind);
     }
     let d = from.second(text);
@@ -166,11 +162,11 @@ pub fn number(text: &[u8], from: Cursor, first: CodePoint, lists: &Lists) -> Num
     if first != 0x30 {
         return decimal(text, from, lists);
     }
-    let c = from.first(text);
-    match c {
-        0x62 => based(text, from.bump(text), Base::Binary, lists),
-        0x6F => based(text, from.bump(text), Base::Octal, lists),
-        0x78 => based(text, from.bump(text), Base::Hexadecimal, lists),
-        _ => decimal(text, from, lists),
-    }
+    let base = match from.first(text) {
+        0x62 => Base::Binary,
+        0x6F => Base::Octal,
+        0x78 => Base::Hexadecimal,
+        _ => return decimal(text, from, lists),
+    };
+    based(text, from.bump(text), base, lists)
 }

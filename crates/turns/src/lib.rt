@@ -227,24 +227,22 @@ fn turn_of(mode: Mode, c: CodePoint, lists: &Lists) -> Turn
     requires { Shallow mode }
     ensures { Turned lists.now mode c result }
 {
-    match mode {
-        Mode::Start { gap } => turned(Before::Nothing, Goes::Ends(gap)),
-        Mode::OneSlash { gap } => one_slash(gap, c),
-        Mode::TwoSlashes { gap } => two_slashes(gap, c),
-        Mode::ThreeSlashes { gap } => three_slashes(gap, c),
-        Mode::SlashStar { gap } => slash_star(gap, c),
-        Mode::SlashStars { gap } => slash_stars(gap, c),
-        Mode::DocLine => turned(Before::Nothing, comment_turns::doc_goes(c)),
-        Mode::PlainLine => turned(Before::Nothing, comment_turns::plain_goes(c)),
-        Mode::Block { doc, depth, last } => turned(
-            Before::Nothing,
-            comment_turns::block_goes(doc, depth, last, c),
-        ),
-        Mode::InWord => turned(Before::Nothing, word_turns::word_goes(c, lists)),
-        Mode::InString => turned(Before::Nothing, quote_turns::string_goes(c)),
-        Mode::Broken => turned(Before::Nothing, Goes::Drops(Mode::Broken)),
-        _ => turned(Before::Nothing, in_token(mode, c, lists)),
-    }
+    let goes = match mode {
+        Mode::Start { gap } => Goes::Ends(gap),
+        Mode::OneSlash { gap } => return one_slash(gap, c),
+        Mode::TwoSlashes { gap } => return two_slashes(gap, c),
+        Mode::ThreeSlashes { gap } => return three_slashes(gap, c),
+        Mode::SlashStar { gap } => return slash_star(gap, c),
+        Mode::SlashStars { gap } => return slash_stars(gap, c),
+        Mode::DocLine => comment_turns::doc_goes(c),
+        Mode::PlainLine => comment_turns::plain_goes(c),
+        Mode::Block { doc, depth, last } => comment_turns::block_goes(doc, depth, last, c),
+        Mode::InWord => word_turns::word_goes(c, lists),
+        Mode::InString => quote_turns::string_goes(c),
+        Mode::Broken => Goes::Drops(Mode::Broken),
+        _ => in_token(mode, c, lists),
+    };
+    turned(Before::Nothing, goes)
 }
 
 // A character with which a token begins, after what was held back.

@@ -1,7 +1,7 @@
 -- Lifetimes, in the facts of the code.
 use Prim.Native.Nat.{ℕ, ◌+◌, ◌≤◌}
 use mathlib.Core.Path.{◌≡◌, refl, sym, ap, ◌∙◌}
-use mathlib.Core.Bool.{Bool, true, false, not}
+use mathlib.Core.Bool.{Bool, true, false}
 use mathlib.Core.List.{List}
 use Rattle.std.specs.Prelude.{Some, None}
 use lib.ListN.{length, get_or, take, drop}
@@ -9,7 +9,6 @@ use mathlib.Core.Logic.{⊎_elim}
 use native.Mathlib.Omega.{arith}
 use borrow.Author.Tests.{ne_eqb, eqb-true}
 use lib.Dec.{eqb}
-use Rattle.std.proofs.lemmas.Bool.{not-true, not-false}
 use Rattle.text.specs.Chars.{width, size}
 use Rattle.classes.specs.Identifiers.{digit, letter, id_start}
 use Rattle.basics.specs.Choice.{and, or}
@@ -62,21 +61,20 @@ module _ (L : Lists) (b : Bool) {s : List ℕ} {a n : Cursor} (m : Moved s a n (
         → Ran (lifetime_rest L b before) s a n x
     open_end before r = named before (ran_no _ _ (is 'single') e (ne_eqb c 0x27 z) r)
 
-    pub prefixed_in : c ≡ 0x23 → not b ≡ true → RestRan L b s a (record { kind = kinded.Plain UnknownPrefixLifetime; next = n })
+    pub prefixed_in : c ≡ 0x23 → b ≡ false → RestRan L b s a (record { kind = kinded.Plain UnknownPrefixLifetime; next = n })
     prefixed_in h f =
         record {
           past = tt;
-          ran = λ before. open_end before (ran_that _ _ (not-true b f) (ran_yes (give UnknownPrefixLifetime) _ (is '#') e (rw h) (ran_give UnknownPrefixLifetime s n)));
+          ran = λ before. open_end before (ran_that _ _ f (ran_yes (give UnknownPrefixLifetime) _ (is '#') e (rw h) (ran_give UnknownPrefixLifetime s n)));
         }
 
-    pub numbered_in : not b ≡ false → RestRan L b s a (record { kind = kinded.Plain (Lifetime b); next = n })
-    numbered_in f =
-        let h : b ≡ true = not-false b f in
+    pub numbered_in : b ≡ true → RestRan L b s a (record { kind = kinded.Plain (Lifetime b); next = n })
+    numbered_in h =
         record { past = tt; ran = λ before. open_end before (ran_this (give (Lifetime true)) _ h (ran_word (ran_give (Lifetime true) s n) (ap Lifetime h))) }
 
     pub lifetime_in : (c ≡ 0x23 → ⊥) → RestRan L b s a (record { kind = kinded.Plain (Lifetime b); next = n })
     lifetime_in k =
-        ⊎_elim (λ h. numbered_in (ap not h))
+        ⊎_elim numbered_in
         (λ f. record { past = tt; ran = λ before. open_end before (ran_that _ _ f (ran_no _ (give (Lifetime false)) (is '#') e (ne_eqb c 0x23 k) (ran_word (ran_give (Lifetime false) s n) (ap Lifetime f)))) }) (yes_or_no b)
 
 -- a raw name, from its hash on

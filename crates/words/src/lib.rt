@@ -29,8 +29,7 @@ fn eat_continue(text: &[u8], from: Cursor, lists: &Lists) -> Cursor
 pub fn eat_identifier(text: &[u8], from: Cursor, lists: &Lists) -> Cursor
     ensures { Ran (identifier lists.now) text.now from result tt }
 {
-    let c = from.first(text);
-    if lists.is_start(c) {
+    if lists.is_start(from.first(text)) {
         return eat_continue(text, from.bump(text), lists);
     }
     from
@@ -86,22 +85,23 @@ fn lifetime_rest(text: &[u8], from: Cursor, numbered: bool, lists: &Lists) -> Sc
     ensures { RestRan lists.now numbered text.now from result }
 {
     let next = eat_continue(text, from, lists);
-    let c = next.first(text);
-    if c == 0x27 {
-        let past = next.bump(text);
-        let kind = LiteralKind::Char { terminated: true };
-        return Scanned {
-            kind: Kinded::Literal(kind, past),
-            next: past,
-        };
+    match next.first(text) {
+        0x27 => {
+            let past = next.bump(text);
+            let kind = LiteralKind::Char { terminated: true };
+            Scanned {
+                kind: Kinded::Literal(kind, past),
+                next: past,
+            }
+        }
+        0x23 if !numbered => Scanned::plain(TokenKind::UnknownPrefixLifetime, next),
+        _ => {
+            let kind = TokenKind::Lifetime {
+                starts_with_number: numbered,
+            };
+            Scanned::plain(kind, next)
+        }
     }
-    if c == 0x23 && !numbered {
-        return Scanned::plain(TokenKind::UnknownPrefixLifetime, next);
-    }
-    let kind = TokenKind::Lifetime {
-        starts_with_number: numbered,
-    };
-    Scanned::plain(kind, next)
 }
 
 // A raw lifetime, from its hash on: the hash, the start of an identifier and what goes on in it.
@@ -125,19 +125,13 @@ fn after_quote_r(text: &[u8], from: Cursor, lists: &Lists) -> Scanned
 pub fn lifetime(text: &[u8], from: Cursor, lists: &Lists) -> Option<Scanned>
     ensures { LifeRan lists.now text.now from result }
 {
-    let d = from.second(text);
-    if d == 0x27 {
+    if from.second(text) == 0x27 {
         return None;
     }
-    let c = from.first(text);
-    if c == 0x72 {
-        return Some(after_quote_r(text, from.bump(text), lists));
+    match from.first(text) {
+        0x72 => Some(after_quote_r(text, from.bump(text), lists)),
+        c if classes::is_digit(c) => Some(lifetime_rest(text, from.bump(text), true, lists)),
+        c if lists.is_start(c) => Some(lifetime_rest(text, from.bump(text), false, lists)),
+        _ => None,
     }
-    if classes::is_digit(c) {
-        return Some(lifetime_rest(text, from.bump(text), true, lists));
-    }
-    if lists.is_start(c) {
-        return Some(lifetime_rest(text, from.bump(text), false, lists));
-    }
-    None
 }
