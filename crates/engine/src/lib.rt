@@ -19,35 +19,34 @@ use text::{CodePoint, Decoded};
 use turns::{Before, Shown};
 
 // Lays bytes at a place, and hands back the place past them.
-fn lay(writing: bool, s: &[u8], out: &mut [u8], n: usize) -> usize
-    requires { Room writing out.old n (length s.now) }
-    ensures { Laid writing s.now out.old n out.new result }
+fn lay<const WRITING: bool>(s: &[u8], out: &mut [u8], n: usize) -> usize
+    requires { Room WRITING out.old n (length s.now) }
+    ensures { Laid WRITING s.now out.old n out.new result }
 {
-    if writing {
+    if WRITING {
         return puts::put_bytes(out, n, s);
     }
     n + s.len()
 }
 
 // What was held back.
-fn lay_before(writing: bool, before: Before, out: &mut [u8], n: usize) -> usize
-    requires { Room writing out.old n (length (before_out before)) }
-    ensures { Laid writing (before_out before) out.old n out.new result }
+fn lay_before<const WRITING: bool>(before: Before, out: &mut [u8], n: usize) -> usize
+    requires { Room WRITING out.old n (length (before_out before)) }
+    ensures { Laid WRITING (before_out before) out.old n out.new result }
 {
     match before {
         Before::Nothing => n,
-        Before::Newline => lay(writing, b"\n", out, n),
-        Before::Slash => lay(writing, b"/", out, n),
-        Before::Slashes => lay(writing, b"//", out, n),
-        Before::Slashes3 => lay(writing, b"///", out, n),
-        Before::Star => lay(writing, b"/*", out, n),
-        Before::Stars => lay(writing, b"/**", out, n),
+        Before::Newline => lay::<WRITING>(b"\n", out, n),
+        Before::Slash => lay::<WRITING>(b"/", out, n),
+        Before::Slashes => lay::<WRITING>(b"//", out, n),
+        Before::Slashes3 => lay::<WRITING>(b"///", out, n),
+        Before::Star => lay::<WRITING>(b"/*", out, n),
+        Before::Stars => lay::<WRITING>(b"/**", out, n),
     }
 }
 
 // What was held back, and then what is shown of the character that stands from `i` to `next`.
-fn lay_step(
-    writing: bool,
+fn lay_step<const WRITING: bool>(
     before: Before,
     shown: Shown,
     text: &[u8],
@@ -56,13 +55,13 @@ fn lay_step(
     out: &mut [u8],
     n: usize,
 ) -> usize
-    requires { Laying writing before shown text.now i next out.old n }
-    ensures { Laid writing (step_bytes before shown text.now i next) out.old n out.new result }
+    requires { Laying WRITING before shown text.now i next out.old n }
+    ensures { Laid WRITING (step_bytes before shown text.now i next) out.old n out.new result }
 {
-    let k = lay_before(writing, before, out, n);
+    let k = lay_before::<WRITING>(before, out, n);
     match shown {
-        Shown::Itself => lay(writing, &text[i..next], out, k),
-        Shown::Line => lay(writing, b"\n", out, k),
+        Shown::Itself => lay::<WRITING>(&text[i..next], out, k),
+        Shown::Line => lay::<WRITING>(b"\n", out, k),
         Shown::None => k,
     }
 }
@@ -71,10 +70,7 @@ fn lay_step(
 fn begun(begins: bool, here: usize, before: usize) -> usize
     ensures { result ≡ pick begins here before }
 {
-    if begins {
-        return here;
-    }
-    before
+    if begins { here } else { before }
 }
 
 // The mode after a character, the place of the token begun, and the place past what was laid.
@@ -86,8 +82,7 @@ pub struct Kept {
 }
 
 // ONE CHARACTER, which stands from `i` to `next`.
-fn feed_char(
-    writing: bool,
+fn feed_char<const WRITING: bool>(
     mode: Mode,
     from: usize,
     at: usize,
@@ -99,17 +94,16 @@ fn feed_char(
     out: &mut [u8],
     n: usize,
 ) -> Kept
-    requires { CharFeeding writing lists.now mode from at c text.now i next out.old n }
-    ensures { CharFed writing (step lists.now from at mode c) out.old n out.new result }
+    requires { CharFeeding WRITING lists.now mode from at c text.now i next out.old n }
+    ensures { CharFed WRITING (step lists.now from at mode c) out.old n out.new result }
 {
     let stepped = turns::step(mode, c, lists);
     let before = stepped.before;
     let shown = stepped.shown;
-    let after = stepped.mode;
-    let past = lay_step(writing, before, shown, text, i, next, out, n);
+    let past = lay_step::<WRITING>(before, shown, text, i, next, out, n);
     let place = begun(stepped.begins, at, from);
     Kept {
-        mode: after,
+        mode: stepped.mode,
         from: place,
         n: past,
     }
@@ -124,33 +118,25 @@ pub struct Ran {
 
 // A RUN OF BYTES, from a state of the machine on. It ends at an ill-formed sequence, as its characters do. The parts of the state are locals of their own while
 // it runs.
-pub fn run(writing: bool, start: State, text: &[u8], lists: &Lists, out: &mut [u8]) -> Ran
-    requires { Feeding writing lists.now start text.now out.old }
-    ensures { Fed writing lists.now start text.now out.old out.new result }
+pub fn run<const WRITING: bool>(start: State, text: &[u8], lists: &Lists, out: &mut [u8]) -> Ran
+    requires { Feeding WRITING lists.now start text.now out.old }
+    ensures { Fed WRITING lists.now start text.now out.old out.new result }
 {
     let mut mode = start.mode;
     let mut from = start.from;
     let mut at = start.at;
     let mut i: usize = 0;
     let mut n: usize = 0;
-    loop {
-        match text::decode(text, i) {
-            Decoded::Char(c, w) => {
-                let next = i + w;
-                if line_ends::is_cr_lf(text, c, next) {
-                    i = next;
-                    continue;
-                }
-                let kept = feed_char(writing, mode, from, at, c, text, i, next, lists, out, n);
-                mode = kept.mode;
-                from = kept.from;
-                n = kept.n;
-                at += w;
-                i = next;
-            }
-            Decoded::End => break,
-            Decoded::Ill(_) => break,
+    while let Decoded::Char(c, w) = text::decode(text, i) {
+        let next = i + w;
+        if !line_ends::is_cr_lf(text, c, next) {
+            let kept = feed_char::<WRITING>(mode, from, at, c, text, i, next, lists, out, n);
+            mode = kept.mode;
+            from = kept.from;
+            n = kept.n;
+            at += w;
         }
+        i = next;
     }
     Ran {
         state: State { mode, from, at },
@@ -196,33 +182,32 @@ pub struct Broken {
 }
 
 // THE BYTES THAT ARE LEFT, from a state of the machine on, and then the end: how many bytes the rest of the key takes; where it is to be written, it is laid too.
-pub fn close(
-    writing: bool,
+pub fn close<const WRITING: bool>(
     start: State,
     text: &[u8],
     lists: &Lists,
     out: &mut [u8],
 ) -> Result<usize, Broken>
-    requires { Closing writing lists.now start text.now out.old }
-    ensures { Closed writing lists.now start text.now out.old out.new result }
+    requires { Closing WRITING lists.now start text.now out.old }
+    ensures { Closed WRITING lists.now start text.now out.old out.new result }
 {
-    let ran = run(writing, start, text, lists, out);
+    let ran = run::<WRITING>(start, text, lists, out);
     let state = ran.state;
     match end_of(state.mode) {
         None => Err(Broken { start: state.from }),
-        Some(before) => Ok(lay_before(writing, before, out, ran.n)),
+        Some(before) => Ok(lay_before::<WRITING>(before, out, ran.n)),
     }
 }
 
 // A WHOLE TEXT: how many bytes its key takes; where it is to be written, it is laid too.
-pub fn whole(writing: bool, text: &[u8], lists: &Lists, out: &mut [u8]) -> Result<usize, Broken>
-    requires { KeyReady writing lists.now text.now out.old }
-    ensures { KeyMade writing lists.now text.now out.old out.new result }
+pub fn whole<const WRITING: bool>(text: &[u8], lists: &Lists, out: &mut [u8]) -> Result<usize, Broken>
+    requires { KeyReady WRITING lists.now text.now out.old }
+    ensures { KeyMade WRITING lists.now text.now out.old out.new result }
 {
     let begin = State {
         mode: Mode::Start { gap: false },
         from: 0,
         at: 0,
     };
-    close(writing, begin, text, lists, out)
+    close::<WRITING>(begin, text, lists, out)
 }

@@ -1,13 +1,11 @@
 -- What the call that goes on answers and leaves, by its cases, in the facts of the code.
-use Rattle.std.specs.Prelude.{Err}
 use Prim.Native.Nat.{ℕ}
-use mathlib.Core.Path.{◌≡◌, sym, ap, ◌∙◌}
+use mathlib.Core.Path.{◌≡◌, sym, ◌∙◌}
 use mathlib.Core.Bool.{Bool, true, false}
 use mathlib.Core.List.{List}
-use Rattle.refusal.specs.declared.Bad.{Bad}
 use Rattle.refusal.specs.declared.Numbers.{Numbers}
 use Rattle.refusal.specs.Verdict.{Verdict, fine}
-use Rattle.refusal.specs.Numbers.{numbers, bad_numbers}
+use Rattle.refusal.specs.Numbers.{numbers}
 use Rattle.text.specs.Position.{on_boundary, starts_here}
 use Rattle.text.proofs.Positions.{boundary_byte}
 use Rattle.token.specs.Lists.{Lists}
@@ -37,9 +35,3 @@ module _ (limit : ℕ) (s : List ℕ) (L : Lists) {v : Verdict} (e : v ≡ token
 
     pub position_run : (on : Bool) {before : List ℕ} {r : RunAnswer} → t ≡ false → r ≡ no_run (numbers 4 at 0) → RunOut limit s L at on before before r
     position_run on {before} p q = record { answer = q ∙ none_at no_run _ p; holds = none_at (λ n. before) _ p }
-
-  refused_at : {A : Type 0} (at : ℕ) (f : Numbers → A) (a : A) {bad : Bad} → v ≡ Err bad → f (bad_numbers bad) ≡ at_boundary limit s L at f a
-  refused_at at f a k = rw (← e, k)
-
-  pub refused_run : (at : ℕ) (on : Bool) {before : List ℕ} {r : RunAnswer} {bad : Bad} {n : Numbers} → v ≡ Err bad → n ≡ bad_numbers bad → r ≡ no_run n → RunOut limit s L at on before before r
-  refused_run at on {before} k q p = record { answer = p ∙ ap no_run q ∙ refused_at at no_run _ k; holds = refused_at at (λ n. before) _ k }

@@ -1,7 +1,5 @@
-pub mod Outs
 pub mod Runs
 pub mod Goings
 pub mod Blocks
 pub mod Shebangs
 pub mod Answers
-pub mod Files

@@ -31,11 +31,7 @@ use Rattle.engine.specs.Wholes.{need_for}
 use Rattle.key.specs.Answers.{KeyAnswer}
 use Rattle.key.specs.declared.KeyRefusal.TheVariants.{DoubleReturn, HiddenMark, Broken, Room, Shared}
 use Rattle.key.specs.Answers.{shared}
-use Rattle.key.specs.Answers.{roomed, unbroken, unmarked, undoubled, checked_answer, key_answer, CheckedKeying, Keying, key_numbers}
-
--- BY NUMBER, at a case
-pub numbers_at : {x y : KeyAnswer} → x ≡ y → key_numbers y ≡ key_numbers x
-numbers_at e = sym (ap key_numbers e)
+use Rattle.key.specs.Answers.{roomed, unbroken, unmarked, undoubled, checked_answer, key_answer, CheckedKeying, Keying}
 
 -- what is answered, by what the key needs
 abbrev answered : Need → (room : ℕ) → KeyAnswer

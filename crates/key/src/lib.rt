@@ -58,11 +58,11 @@ fn checked_key(source: &Source, out: &mut [u8]) -> Result<usize, KeyRefusal>
 {
     let text = source.text();
     let lists = source.lists();
-    let bytes = engine::whole(false, text, lists, out)?;
+    let bytes = engine::whole::<false>(text, lists, out)?;
     if out.len() < bytes {
         return Err(KeyRefusal::Room(bytes));
     }
-    Ok(engine::whole(true, text, lists, out)?)
+    Ok(engine::whole::<true>(text, lists, out)?)
 }
 
 // PUBLIC. The key of a text, in the first bytes of a lent buffer. Refusals 1, 3, 2, 10, 11, 6 and 7 in this order; none of them writes a byte.
