@@ -29,87 +29,74 @@ pub fn answer_numbers(answer: Result<bool, Bad>) -> Numbers
 }
 
 // PUBLIC. Whether c is one of the 11 points of whitespace.
+#[tactic(auto, unfolding(crate::specs::Whitespace::is_whitespace))]
 pub fn is_whitespace(c: CodePoint) -> bool
     ensures { result ≡ is_whitespace c }
 {
-    match c {
-        0x0A | 0x0B | 0x0C | 0x0D | 0x85 | 0x2028 | 0x2029 => true,
-        0x200E | 0x200F => true,
-        0x09 | 0x20 => true,
-        _ => false,
-    }
+    matches!(
+        c,
+        0x0A | 0x0B | 0x0C | 0x0D | 0x85 | 0x2028 | 0x2029
+            | 0x200E | 0x200F
+            | 0x09 | 0x20
+    )
 }
 
 // PUBLIC. Whether c is a tab or a space.
+#[tactic(auto, unfolding(crate::specs::Whitespace::is_horizontal_whitespace))]
 pub fn is_horizontal_whitespace(c: CodePoint) -> bool
     ensures { result ≡ is_horizontal_whitespace c }
 {
-    match c {
-        0x09 | 0x20 => true,
-        _ => false,
-    }
+    matches!(c, 0x09 | 0x20)
 }
 
 // Whether c is a letter of ASCII.
+#[tactic(auto, unfolding(crate::specs::Identifiers::letter))]
 fn letter(c: CodePoint) -> bool
     ensures { result ≡ Rattle.classes.specs.Identifiers.letter c }
 {
-    match c {
-        0x41..=0x5A => true,
-        0x61..=0x7A => true,
-        _ => false,
-    }
+    matches!(c, 0x41..=0x5A | 0x61..=0x7A)
 }
 
 // Whether c is a decimal digit.
 pub fn is_digit(c: CodePoint) -> bool
     ensures { result ≡ digit c }
 {
-    if 0x30 <= c { c <= 0x39 } else { false }
+    matches!(c, 0x30..=0x39)
 }
 
 // Whether c starts an identifier.
+#[tactic(auto, unfolding(crate::specs::Identifiers::id_start))]
 pub fn id_start(c: CodePoint, starts: &[u32]) -> bool
     requires { Good starts.now }
     ensures { result ≡ id_start starts.now c }
 {
     if 0x80 <= c {
-        return ranges::in_pairs(c, starts);
+        ranges::in_pairs(c, starts)
+    } else {
+        letter(c) || c == 0x5F
     }
-    if letter(c) {
-        return true;
-    }
-    c == 0x5F
 }
 
 // Whether c goes on in an identifier.
+#[tactic(auto, unfolding(crate::specs::Identifiers::id_continue))]
 pub fn id_continue(c: CodePoint, continues: &[u32]) -> bool
     requires { Good continues.now }
     ensures { result ≡ id_continue continues.now c }
 {
     if 0x80 <= c {
-        return ranges::in_pairs(c, continues);
-    }
-    if letter(c) {
-        return true;
-    }
-    match c {
-        0x5F => true,
-        0x30..=0x39 => true,
-        _ => false,
+        ranges::in_pairs(c, continues)
+    } else {
+        letter(c) || c == 0x5F || is_digit(c)
     }
 }
 
 // Whether c is an emoji character, as 000 asks it: of characters past ASCII alone.
+#[tactic(auto, unfolding(crate::specs::Emoji::emoji_char))]
 pub fn emoji_char(c: CodePoint, emoji: &[u32]) -> bool
     requires { Good emoji.now }
     ensures { result ≡ emoji_char emoji.now c }
 {
-    if c < 0x80 {
-        false
-    } else {
-        ranges::in_pairs(c, emoji)
-    }
+    0x80 <= c && ranges::in_pairs(c, emoji)
 }
 
 // PUBLIC. Whether c starts an identifier; refusal 3 where the list breaks a rule.
@@ -137,6 +124,7 @@ pub fn is_emoji_char(c: CodePoint, emoji: &[u32]) -> Result<bool, Bad>
 }
 
 // Whether every character from `from` on goes on in an identifier.
+#[tactic(auto, using(crate::proofs::Idents::onward_none, crate::proofs::Idents::onward_more, crate::proofs::Idents::onward_not, crate::proofs::Idents::onward_end, crate::proofs::Idents::onward_ill, text::proofs::Places::char_room, text::proofs::Places::char_less))]
 fn all_continue(text: &[u8], from: usize, continues: &[u32]) -> bool
     requires { Good continues.now }
     ensures { result ≡ all (id_continue continues.now) (chars (drop from text.now)) }
@@ -144,38 +132,27 @@ fn all_continue(text: &[u8], from: usize, continues: &[u32]) -> bool
     let mut at = from;
     loop {
         match text::decode(text, at) {
-            Decoded::Char(c, w) => {
-                if id_continue(c, continues) {
-                    at += w;
-                } else {
-                    return false;
-                }
-            }
-            Decoded::End => return true,
-            Decoded::Ill(_) => return true,
+            Decoded::Char(c, w) if id_continue(c, continues) => at += w,
+            Decoded::Char(..) => return false,
+            Decoded::End | Decoded::Ill(_) => return true,
         }
     }
 }
 
 // Whether the characters of a text are an identifier.
+#[tactic(auto, using(crate::proofs::Idents::ident_more, crate::proofs::Idents::ident_not, crate::proofs::Idents::ident_end, crate::proofs::Idents::ident_ill))]
 fn ident(text: &[u8], starts: &[u32], continues: &[u32]) -> bool
     requires { Good starts.now × Good continues.now }
     ensures { result ≡ is_ident starts.now continues.now (chars text.now) }
 {
     match text::decode(text, 0) {
-        Decoded::Char(c, w) => {
-            if id_start(c, starts) {
-                all_continue(text, w, continues)
-            } else {
-                false
-            }
-        }
-        Decoded::End => false,
-        Decoded::Ill(_) => false,
+        Decoded::Char(c, w) => id_start(c, starts) && all_continue(text, w, continues),
+        Decoded::End | Decoded::Ill(_) => false,
     }
 }
 
 // What `is_ident` checks: 1, 3 for its two lists, 2.
+#[tactic(auto, unfolding(crate::specs::Answers::ident_verdict))]
 pub fn ident_verdict(text: &[u8], starts: &[u32], continues: &[u32]) -> Result<(), Bad>
     ensures { result ≡ ident_verdict MAX_PAIRS text.now starts.now continues.now }
 {

@@ -67,34 +67,6 @@ clear_part from to low high p q e = rw (apart 0xD800 0xDFFF c.surrogates, apart 
         let z : ◌≡◌ {A = ℕ} 0 1 = cc in
         omega arith))
 
--- a pair that covers a forbidden point is not clear
-module _ (first last low high : ℕ) {a : Bool} (p : a ≡ meets first last low high) (t : a ≡ true) where
-  covers : (f l : ℕ) → f ≤ first → last ≤ l → (Clear low high → meets f l low high ≡ false) → false ≡ clear low high
-  covers f l h k none =
-      refuted
-      _
-      (λ (e : clear low high ≡ true).
-      let m = meets_more f l low high first last low high h k (le_refl low) (le_refl high) (sym p ∙ t) in
-      let n = none (clear_true low high e) in
-      let z : ◌≡◌ {A = ℕ} 0 1 = cc in
-      omega arith)
-
-  pub covers_surrogate : 0xD800 ≤ first → last ≤ 0xDFFF → false ≡ clear low high
-  covers_surrogate h k = covers 0xD800 0xDFFF h k (λ (s : Clear low high). s.surrogates)
-
-  pub covers_next_line : 0x85 ≤ first → last ≤ 0x85 → false ≡ clear low high
-  covers_next_line h k = covers 0x85 0x85 h k (λ (s : Clear low high). s.next_line)
-
-  pub covers_mark : 0x200E ≤ first → last ≤ 0x200F → false ≡ clear low high
-  covers_mark h k = covers 0x200E 0x200F h k (λ (s : Clear low high). s.marks)
-
--- the last question decides where the first three are answered with no
-pub clear_last : (low high : ℕ) {a b c d : Bool} → a ≡ meets 0xD800 0xDFFF low high → a ≡ false
-    → b ≡ meets 0x85 0x85 low high → b ≡ false → c ≡ meets 0x200E 0x200F low high → c ≡ false
-    → d ≡ meets 0x2028 0x2029 low high → not d ≡ clear low high
-unfolding clear
-clear_last low high p t q u r v s = rw (← p, t, ← q, u, ← r, v, ← s)
-
 -- `good_pair`, as facts
 pub record Fits (p low high : ℕ) : Type 0 where
   pub order : low ≤ high
@@ -116,9 +88,6 @@ pair_true p low high e =
       above = ltb-true p low (and_1 _ _ h);
       free = and_2 (ltb p low) _ h;
     }
-
-pub pair_not : (p low high : ℕ) → (Fits p low high → ⊥) → false ≡ good_pair p low high
-pair_not p low high h = refuted _ (λ (e : good_pair p low high ≡ true). h (pair_true p low high e))
 
 pub pair_last : (p low high : ℕ) {r : Bool} → low ≤ high → high ≤ 0x10FFFF → 0x80 ≤ low → p < low → r ≡ clear low high → r ≡ good_pair p low high
 unfolding good_pair
@@ -209,6 +178,3 @@ module _ (limit which : ℕ) (l : List ℕ) {r : (Option ℕ)} (p : r ≡ flaw l
 
   pub verdict_fine : r ≡ None → fine ≡ list_verdict limit which l
   verdict_fine q = rw q at verdict_of
-
-  pub verdict_bad : {k : ℕ} → r ≡ Some k → Err (bad.List which k) ≡ list_verdict limit which l
-  verdict_bad q = rw q at verdict_of

@@ -12,45 +12,34 @@ use refusal::Bad;
 pub const MAX_PAIRS: usize = 8192;
 
 // Whether a pair covers one of the points from first to last.
+#[tactic(auto, unfolding(crate::specs::Rules::meets))]
 fn meets(first: u32, last: u32, low: u32, high: u32) -> bool
     ensures { result ≡ Rattle.ranges.specs.Rules.meets first last low high }
 {
-    if low <= last { first <= high } else { false }
+    low <= last && first <= high
 }
 
 // Whether a pair covers none of the points that no list may hold.
+#[tactic(auto, unfolding(crate::specs::Rules::clear))]
 fn clear(low: u32, high: u32) -> bool
     ensures { result ≡ Rattle.ranges.specs.Rules.clear low high }
 {
-    if meets(0xD800, 0xDFFF, low, high) {
-        return false;
-    }
-    if meets(0x85, 0x85, low, high) {
-        return false;
-    }
-    if meets(0x200E, 0x200F, low, high) {
-        return false;
-    }
-    !meets(0x2028, 0x2029, low, high)
+    !meets(0xD800, 0xDFFF, low, high)
+        && !meets(0x85, 0x85, low, high)
+        && !meets(0x200E, 0x200F, low, high)
+        && !meets(0x2028, 0x2029, low, high)
 }
 
 // Whether a pair obeys the rules after a pair that ends at `previous` (0 before the first one).
+#[tactic(auto, unfolding(crate::specs::Rules::good_pair))]
 pub fn good_pair(previous: u32, low: u32, high: u32) -> bool
     ensures { result ≡ good_pair previous low high }
 {
-    if high < low {
-        return false;
-    }
-    if 0x10FFFF < high {
-        return false;
-    }
-    if low < 0x80 {
-        return false;
-    }
-    if low <= previous {
-        return false;
-    }
-    clear(low, high)
+    low <= high
+        && high <= 0x10FFFF
+        && 0x80 <= low
+        && previous < low
+        && clear(low, high)
 }
 
 // The first pair from the left that breaks a rule, then a half pair: its index.
@@ -74,6 +63,7 @@ fn pairs_flaw(list: &[u32]) -> Option<usize>
 }
 
 // The count first, then the pairs.
+#[tactic(auto, unfolding(crate::specs::Rules::flaw))]
 fn list_flaw(list: &[u32]) -> Option<usize>
     ensures { result ≡ flaw MAX_PAIRS list.now }
 {
@@ -84,6 +74,7 @@ fn list_flaw(list: &[u32]) -> Option<usize>
 }
 
 // The check of list number `which` (0 id start, 1 id continue, 2 emoji): refusal 3.
+#[tactic(auto, unfolding(crate::specs::Rules::list_verdict))]
 pub fn check_list(which: usize, list: &[u32]) -> Result<(), Bad>
     ensures { result ≡ list_verdict MAX_PAIRS which list.now }
 {
