@@ -5,7 +5,7 @@ use mathlib.Core.List.{List, [], ◌∷◌, ◌++◌}
 use mathlib.Core.Logic.{◌⊎◌, inl, inr, ⊎_elim}
 use mathlib.Core.Bool.{Bool, true, false, not}
 use borrow.Author.Tests.{eq-eqb, ne_eqb, lt-ltb, le-ltb, le-leb, lt-leb, eqb-true, leb-true}
-use lib.Dec.{eqb, leb, ltb}
+use lib.Dec.{eqb, leb}
 use lib.ListN.{length, get_or, drop, length-drop}
 use lib.Seq.{get_or-drop, drop-drop}
 use native.Mathlib.Omega.{arith}
@@ -105,18 +105,6 @@ module _ (s : List ℕ) (at : ℕ) where
   here_byte : at < length s → not (within 0x80 0xBF (get_or s at 0)) ≡ starts_here s at
   unfolding starts_here
   here_byte h = sym (rw (ne_eqb at (length s) (λ e. omega arith), lt-ltb at (length s) h))
-
-  -- the same as the code tests it: not the end and not past it, then the byte
-  module _ (n : at ≡ length s → ⊥) (l : at ≤ length s) {b : ℕ} (e : b ≡ get_or s at 0) where
-    here_tail : not (within 0x80 0xBF b) ≡ starts_here s at
-    here_tail = ap (λ (x : ℕ). not (within 0x80 0xBF x)) e ∙ here_byte (omega arith)
-
-    pub here_low : b < 0x80 → true ≡ starts_here s at
-    here_low h = sym (ap not (under_within 0x80 0xBF b h)) ∙ here_tail
-
-    pub here_high : 0x80 ≤ b → ltb 0xBF b ≡ starts_here s at
-    here_high h = ⊎_elim (λ k. lt-ltb 0xBF b k ∙ sym (ap not (over_within 0x80 0xBF b (omega arith) k)))
-        (λ k. le-ltb 0xBF b k ∙ sym (ap not (inside_within 0x80 0xBF b h k))) (below_or_not 0xBF b) ∙ here_tail
 
 -- past a character of w bytes nothing changes
 here_on : (s : List ℕ) (w at : ℕ) → w ≤ at → w ≤ length s → starts_here (drop w s) (at - w) ≡ starts_here s at

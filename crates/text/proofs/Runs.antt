@@ -26,9 +26,6 @@ pub record Joined (s : List ℕ) (at bits i : ℕ) : Type 0 where
   pub low : bits < 0x80 → (k : ℕ) → k < i → get_or s (at + k) 0 < 0x80
 
 module _ (s : List ℕ) (at : ℕ) where
-  pub joined_none : at + 8 ≤ length s → Joined s at 0 0
-  joined_none h = record { count = omega arith; room = h; low = λ l k n. absurd (omega arith) }
-
   pub joined_more : {bits i : ℕ} → Joined s at bits i → i < 8 → Joined s at (bit_or bits (get_or s (at + i) 0)) (i + 1)
   joined_more {bits} {i} j n =
       let b = get_or s (at + i) 0 in

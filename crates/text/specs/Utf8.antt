@@ -1,8 +1,9 @@
 -- RFC 3629: the sequence of bytes at the front of a text. Section 4 has the grammar, row by row; section 3 the value of a sequence.
 -- Document 02, W2: where the bytes are no sequence, the row says why. Each row goes byte by byte from the left.
-use Rattle.std.specs.Prelude.{ℕ, ◌+◌, ◌-◌, ◌*◌, List, [], ◌∷◌}
+use Rattle.std.specs.Prelude.{ℕ, ◌+◌, ◌-◌, ◌*◌, List, [], ◌∷◌, Result, Ok, Err}
 use Rattle.basics.specs.Choice.{pick}
 use Rattle.basics.specs.Tests.{within}
+use Rattle.refusal.specs.declared.Cause.{Cause}
 use Rattle.refusal.specs.declared.Cause.TheVariants.{Start, Cut, Follow}
 use Rattle.text.specs.declared.Decoded.{Decoded}
 use Rattle.text.specs.declared.Decoded.TheVariants.{Char, End, Ill}
@@ -54,3 +55,8 @@ lead a s =
 unfoldable pub decoded : List ℕ → Decoded
 decoded [] = End
 decoded (a ∷ s) = lead a s
+
+-- what the code finds after a first byte, a character and its bytes or why there is none, as what stands at a position
+abbrev pub as_decoded : Result (ℕ × ℕ) Cause → Decoded
+as_decoded (Ok (c, w)) = Char c w
+as_decoded (Err cause) = Ill cause
