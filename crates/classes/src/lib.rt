@@ -35,9 +35,7 @@ pub fn is_whitespace(c: CodePoint) -> bool
 {
     matches!(
         c,
-        0x0A | 0x0B | 0x0C | 0x0D | 0x85 | 0x2028 | 0x2029
-            | 0x200E | 0x200F
-            | 0x09 | 0x20
+        0x0A | 0x0B | 0x0C | 0x0D | 0x85 | 0x2028 | 0x2029 | 0x200E | 0x200F | 0x09 | 0x20
     )
 }
 
@@ -99,7 +97,8 @@ pub fn emoji_char(c: CodePoint, emoji: &[u32]) -> bool
     0x80 <= c && ranges::in_pairs(c, emoji)
 }
 
-// PUBLIC. Whether c starts an identifier; refusal 3 where the list breaks a rule.
+// PUBLIC. Whether c starts an identifier; refusal 3 where the list breaks a rule. Three calls, as 000 has them: only the list and its test differ, and a call that
+// took both would be longer than each.
 pub fn is_id_start(c: CodePoint, starts: &[u32]) -> Result<bool, Bad>
     ensures { result ≡ id_start_answer MAX_PAIRS starts.now c }
 {
@@ -123,7 +122,7 @@ pub fn is_emoji_char(c: CodePoint, emoji: &[u32]) -> Result<bool, Bad>
     Ok(emoji_char(c, emoji))
 }
 
-// Whether every character from `from` on goes on in an identifier.
+// Whether every character from `from` on goes on in an identifier. By position: `chars` of std is of a `str`, and any bytes come in here.
 #[tactic(auto, using(crate::proofs::Idents::onward_none, crate::proofs::Idents::onward_more, crate::proofs::Idents::onward_not, crate::proofs::Idents::onward_end, crate::proofs::Idents::onward_ill, text::proofs::Places::char_room, text::proofs::Places::char_less))]
 fn all_continue(text: &[u8], from: usize, continues: &[u32]) -> bool
     requires { Good continues.now }

@@ -35,11 +35,7 @@ fn clear(low: u32, high: u32) -> bool
 pub fn good_pair(previous: u32, low: u32, high: u32) -> bool
     ensures { result ≡ good_pair previous low high }
 {
-    low <= high
-        && high <= 0x10FFFF
-        && 0x80 <= low
-        && previous < low
-        && clear(low, high)
+    low <= high && high <= 0x10FFFF && 0x80 <= low && previous < low && clear(low, high)
 }
 
 // The first pair from the left that breaks a rule, then a half pair: its index.
@@ -86,6 +82,7 @@ pub fn check_list(which: usize, list: &[u32]) -> Result<(), Bad>
 
 // Whether a pair of a good list holds c. The range is halved: the pairs before `begin` lie below c, those from `end` on above it. A turn leaves at most
 // half of the pairs between them, so that fewer than 2^k pairs take at most k turns (proofs/Turns; of a list that was let through, proofs/Limit).
+// By hand: the search of std promises nothing of its turns. The numbers stand side by side as the C interface lends them.
 pub fn in_pairs(c: u32, list: &[u32]) -> bool
     requires { Good list.now }
     ensures { result ≡ in_pairs c list.now }

@@ -24,7 +24,7 @@ pub enum Cause {
 pub enum Bad {
     // the text has more than 4,294,967,295 bytes
     TooLong,
-    // a list breaks a rule: the list (0 id start, 1 id continue, 2 emoji) and the index of the pair
+    // a list breaks a rule: the list, by the number that the C interface gives it (0 id start, 1 id continue, 2 emoji), and the index of the pair
     List(usize, usize),
     // the text is not UTF-8: the start of the first ill-formed sequence, and its cause
     NotUtf8(usize, Cause),
@@ -75,6 +75,7 @@ pub fn refused(number: u32, beside: usize) -> Numbers
     }
 }
 
+// The numbers of the C interface (docs/GUIDE), here and below. Functions with names and no `From`: the definition that each gives has the same name (specs/Numbers).
 pub fn cause_number(cause: Cause) -> usize
     ensures { result ≡ cause_number cause }
 {

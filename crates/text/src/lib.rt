@@ -1,4 +1,6 @@
 // UTF-8 by RFC 3629: the character at a position of any bytes, and the verdict on a whole text.
+// A place is `text` and `at`, two parameters, here and in the crates above: a rest of the text (`&text[at..]`) would say both in one, but a place that is handed back or
+// reported counts from the start of the whole text, and every clause would have to tie the rest to it.
 #![tactic(auto)]
 
 ghost use Rattle.std.specs.Prelude.{◌≡◌, true, ◌+◌, ◌≤◌, ◌<◌, length, drop};
@@ -22,7 +24,7 @@ pub enum Decoded {
     Ill(Cause),
 }
 
-// A byte as a number.
+// A byte as a number: `u32::from`, with the bound that its own promise does not say.
 pub fn wide(x: u8) -> u32
     ensures { (result ≡ x) × (result < 256) }
 {
@@ -41,7 +43,8 @@ fn next_byte(text: &[u8], at: usize, low: u32, high: u32) -> Result<u32, Cause>
     Ok(b)
 }
 
-// The value of a sequence: the bits that its bytes carry.
+// The value of a sequence: the bits that its bytes carry. One function for each length, here and below, as RFC 3629 has one row for each: a loop over the tails
+// would say in an invariant what each row says by itself.
 fn join_two(a: u32, b: u32) -> CodePoint
     requires { (Lead 0xC0 a) × (Tail b) }
     ensures { result ≡ value2 a b }
@@ -189,7 +192,7 @@ pub fn eight_ascii(text: &[u8], at: usize) -> bool
     bits < 0x80
 }
 
-// The check of a text's bytes: refusal 2. Eight bytes of ASCII are taken in one turn, and else one character.
+// The check of a text's bytes: refusal 2. Eight bytes of ASCII are taken in one turn, and else one character: no iterator of std goes on by both.
 #[tactic(auto, using(crate::proofs::Places::reached_none, crate::proofs::Places::char_room, crate::proofs::Places::char_less, crate::proofs::Places::reached_more, crate::proofs::Places::reached_end, crate::proofs::Places::reached_ill, crate::proofs::Runs::reached_run))]
 pub fn check_utf8(text: &[u8]) -> Result<(), Bad>
     ensures { result ≡ utf8_verdict text.now }
