@@ -1,5 +1,5 @@
 use Rattle.quoted.proofs.Quotes.{over_in, double_close, double_other, double_escaped, double_lone}
-use Rattle.cursor.proofs.Moves.{fewer_1, fewer_2}
+use Rattle.cursor.proofs.Moves.{fewer_2}
 use Rattle.cursor.proofs.Loops.{inside_start}
 use Rattle.quoted.proofs.double_quoted_string.Goals as goal
 
@@ -11,9 +11,6 @@ returns c = search over_in
 
 pub returns-then-c-eq34 : goal.returns-then-c-eq34
 returns-then-c-eq34 c = search double_close
-
-pub loop-c-smaller : goal.loop-c-smaller
-loop-c-smaller c = search fewer_1
 
 pub loop-c-preserved : goal.loop-c-preserved
 loop-c-preserved c = search double_other

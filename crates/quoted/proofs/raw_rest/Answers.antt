@@ -1,5 +1,4 @@
 use Rattle.quoted.proofs.Closes.{seek_start, seek_over, seek_other, seek_short, seek_found, seek_fewer}
-use Rattle.cursor.proofs.Moves.{fewer_1}
 use Rattle.quoted.proofs.raw_rest.Goals as goal
 
 pub loop-c-init : goal.loop-c-init
@@ -16,9 +15,6 @@ loop-c-smaller-else-hashes-count c = search seek_fewer
 
 pub loop-c-preserved-else-hashes-count : goal.loop-c-preserved-else-hashes-count
 loop-c-preserved-else-hashes-count c = search seek_short
-
-pub loop-c-smaller : goal.loop-c-smaller
-loop-c-smaller c = search fewer_1
 
 pub loop-c-preserved : goal.loop-c-preserved
 loop-c-preserved c = search seek_other

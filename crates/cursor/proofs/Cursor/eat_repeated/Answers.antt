@@ -1,5 +1,4 @@
 use Rattle.cursor.proofs.Counts.{counting_none, counting_fits, counting_on, counting_off, counting_over}
-use Rattle.cursor.proofs.Moves.{fewer_1}
 use Rattle.cursor.proofs.Cursor.eat_repeated.Goals as goal
 
 pub loop-c-init : goal.loop-c-init
@@ -10,9 +9,6 @@ returns-then-c-wanted c = search counting_off
 
 pub overflow_add-count : goal.overflow_add-count
 overflow_add-count c = search counting_fits
-
-pub loop-c-smaller : goal.loop-c-smaller
-loop-c-smaller c = search fewer_1
 
 pub loop-c-preserved : goal.loop-c-preserved
 loop-c-preserved c = search counting_on
