@@ -1,9 +1,5 @@
-use Rattle.frontmatter.proofs.Fences.{fencing, fencing_over, fencing_other, fencing_found, fencing_few, fencing_less}
-use Rattle.cursor.proofs.Moves.{fewer_1}
+use Rattle.frontmatter.proofs.Fences.{fencing_over, fencing_other, fencing_found, fencing_few, fencing_less}
 use Rattle.frontmatter.proofs.find_fence.Goals as goal
-
-pub loop-c-init : goal.loop-c-init
-loop-c-init c = fencing _ _ _
 
 pub returns-in_err-c : goal.returns-in_err-c
 returns-in_err-c c = rw c.from_residual.ensures (search (fencing_over, c.in_err-c.was))
@@ -16,9 +12,6 @@ loop-c-smaller-then-c-eq10 c = search (fencing_less, c.in_ok-c.was)
 
 pub loop-c-preserved-then-c-eq10 : goal.loop-c-preserved-then-c-eq10
 loop-c-preserved-then-c-eq10 c = search (fencing_few, c.in_ok-c.was)
-
-pub loop-c-smaller : goal.loop-c-smaller
-loop-c-smaller c = search (fewer_1, c.in_ok-c.was)
 
 pub loop-c-preserved : goal.loop-c-preserved
 loop-c-preserved c = search (fencing_other, c.in_ok-c.was)

@@ -1,9 +1,5 @@
-use Rattle.frontmatter.proofs.Recoveries.{lasting, lasting_found, lasting_again, lasting_less, lasting_over, lasting_on}
-use Rattle.cursor.proofs.Moves.{fewer_1}
+use Rattle.frontmatter.proofs.Recoveries.{lasting_found, lasting_again, lasting_less, lasting_over, lasting_on}
 use Rattle.frontmatter.proofs.last_search.Goals as goal
-
-pub loop-cur-init : goal.loop-cur-init
-loop-cur-init c = lasting _ _
 
 pub returns-then-blank : goal.returns-then-blank
 returns-then-blank c = search lasting_found
@@ -16,9 +12,6 @@ loop-cur-preserved-then-at_dashes c = search lasting_again
 
 pub returns-in_err-c : goal.returns-in_err-c
 returns-in_err-c c = rw c.from_residual.ensures (search (lasting_over, c.in_err-c.was))
-
-pub loop-cur-smaller : goal.loop-cur-smaller
-loop-cur-smaller c = search (fewer_1, c.in_ok-c.was)
 
 pub loop-cur-preserved : goal.loop-cur-preserved
 loop-cur-preserved c = search (lasting_on, c.in_ok-c.was)

@@ -1,8 +1,5 @@
-use Rattle.shebang.proofs.Follows.{sought_start, sought_over, token_less, literal_stop, other_stop, trivia_on}
+use Rattle.shebang.proofs.Follows.{sought_over, token_less, literal_stop, other_stop, trivia_on}
 use Rattle.shebang.proofs.bracket_follows.Goals as goal
-
-pub loop-c-init : goal.loop-c-init
-loop-c-init c = sought_start _ _
 
 pub returns : goal.returns
 returns c = search sought_over

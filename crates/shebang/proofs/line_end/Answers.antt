@@ -1,16 +1,9 @@
-use Rattle.cursor.proofs.Moves.{fewer_1}
-use Rattle.shebang.proofs.Lines.{lined_start, line_over, line_stop, line_on, line_both, line_return}
+use Rattle.shebang.proofs.Lines.{line_over, line_stop, line_on, line_both, line_return}
 use Rattle.shebang.proofs.line_end.Goals as goal
 use Rattle.shebang.proofs.line_end.Goals.{else-c-eq13-via-then-c-eq13+else-first-eq10, else-c-eq13-via-else-c-eq13}
 
-pub loop-c-init : goal.loop-c-init
-loop-c-init c = lined_start _ _
-
 pub returns-then-c-eq10 : goal.returns-then-c-eq10
 returns-then-c-eq10 c = search line_stop
-
-pub loop-c-smaller : goal.loop-c-smaller
-loop-c-smaller c = search fewer_1
 
 pub returns : goal.returns
 returns c = search line_over

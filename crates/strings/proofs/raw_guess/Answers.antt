@@ -1,10 +1,6 @@
 use Rattle.strings.proofs.Bounds.{count_fits, place_fits}
-use Rattle.strings.proofs.Guesses.{guessing_start, guessing_over, guessing_other, guessing_fewer, guessing_more, guessing_less}
-use Rattle.cursor.proofs.Moves.{fewer_1}
+use Rattle.strings.proofs.Guesses.{guessing_over, guessing_other, guessing_fewer, guessing_more, guessing_less}
 use Rattle.strings.proofs.raw_guess.Goals as goal
-
-pub loop-c-init : goal.loop-c-init
-loop-c-init c = guessing_start _ _
 
 pub returns : goal.returns
 returns c = search guessing_over
@@ -26,9 +22,6 @@ loop-c-smaller-else-best-count c = search guessing_less
 
 pub loop-c-preserved-else-best-count : goal.loop-c-preserved-else-best-count
 loop-c-preserved-else-best-count c = search guessing_fewer
-
-pub loop-c-smaller : goal.loop-c-smaller
-loop-c-smaller c = search fewer_1
 
 pub loop-c-preserved : goal.loop-c-preserved
 loop-c-preserved c = search guessing_other
