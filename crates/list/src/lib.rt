@@ -12,7 +12,8 @@ use plan::ListRefusal;
 use ranges::MAX_PAIRS;
 use token::Token;
 
-// The tokens of n scans past a scan, into the first n records; the others keep their values.
+// The tokens of n scans past a scan, into the first n records; the others keep their values. The index is the scan's number too, so that `out[..n].iter_mut()`
+// would hide it from the promise, and take as many lines.
 fn fill(source: &Source, s: Scan, out: &mut [Token], n: usize)
     requires { (n ≤ length out.old) × Lined source.now.text s }
     ensures { out.new ≡ following source.now.lists source.now.text n s ++ drop n out.old }
@@ -52,7 +53,7 @@ pub fn get(records: &[Token], i: usize, none: Token) -> Token
     records[i]
 }
 
-// The answer, and 64 records by value.
+// The answer, and 64 records by value: no `Vec`, since no call has a heap.
 #[derive(Drop)]
 pub struct Records {
     pub answer: Result<usize, ListRefusal>,

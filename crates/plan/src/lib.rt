@@ -27,7 +27,8 @@ impl From<Bad> for ListRefusal {
     }
 }
 
-// The answer of the list call by number: done, with the number of tokens, or the refusal.
+// The answer of the list call by number: done, with the number of tokens, or the refusal. Named as its rule, as the guide has it, and no `From`: neither type is
+// this crate's.
 pub fn list_numbers(answer: Result<usize, ListRefusal>) -> Numbers
     ensures { result ≡ list_numbers answer }
 {
@@ -46,7 +47,8 @@ pub struct Plan {
     pub first: Scan,
 }
 
-// The number of tokens of a text that was checked, in one pass.
+// The number of tokens of a text that was checked, in one pass. The position goes on by a token's bytes: a `for` over the tokens would want an iterator that holds
+// the source, and as many lines.
 fn count(source: &Source, on: bool) -> usize
     ensures { result ≡ length (records source.now.lists on source.now.text) }
 {
@@ -82,7 +84,7 @@ fn planned(answer: Result<usize, ListRefusal>, n: usize, on: bool) -> Plan
     Plan { answer, n, first }
 }
 
-// The answer of the list call with `slots` slots: refusals 1, 3, 2 and 5 in this order.
+// The answer of the list call with `slots` slots: refusals 1, 3, 2 and 5 in this order. It checks the lists, and so it takes the three.
 fn answer_of(
     text: &[u8],
     starts: &[u32],
@@ -108,8 +110,6 @@ pub fn plan_list(
 ) -> Plan
     ensures { result ≡ plan_of MAX_PAIRS text.now (lent starts.now continues.now emoji.now) on slots }
 {
-    match answer_of(text, starts, continues, emoji, on, slots) {
-        Ok(n) => planned(Ok(n), n, on),
-        Err(refusal) => planned(Err(refusal), 0, on),
-    }
+    let answer = answer_of(text, starts, continues, emoji, on, slots);
+    planned(answer, answer.unwrap_or(0), on)
 }

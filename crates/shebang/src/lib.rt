@@ -1,6 +1,7 @@
 // Where a shebang ends (000's `strip_shebang`), proved equal to the rule in the book, in linear time.
 //
-// Nothing is asked of the text, and no list is lent: any lists give the same answer.
+// Nothing is asked of the text, and no list is lent: any lists give the same answer. A scan takes the text and the cursor as two parameters: a cursor that held its
+// text would be three words in every answer, and every promise would have to say besides that the text is the same.
 #![tactic(auto)]
 
 ghost use Rattle.std.specs.Prelude.{◌≡◌, ◌+◌};
@@ -48,7 +49,7 @@ fn bracket_follows(text: &[u8], from: Cursor) -> bool
     false
 }
 
-// Up to LF, CR LF or the end.
+// Up to LF, CR LF or the end. No `eat_while`: whether a CR ends the line, the character after it says.
 fn line_end(text: &[u8], from: Cursor) -> Cursor
     ensures { result.at ≡ from.at + line_bytes (rest text.now from) }
 {
@@ -93,7 +94,7 @@ pub fn strip_shebang(text: &[u8]) -> Result<Option<usize>, Bad>
     Ok(shebang_end(text))
 }
 
-// The answer by number.
+// The answer by number. Named as its rule, as the guide has it, and no `From`: neither type is this crate's.
 pub fn shebang_numbers(answer: Result<Option<usize>, Bad>) -> Numbers
     ensures { result ≡ shebang_numbers answer }
 {

@@ -18,7 +18,8 @@ use token::Token;
 // A slot for a token: so many numbers.
 pub const WIDTH: usize = 5;
 
-// Puts the numbers of a slot at a place, and hands back the place past them.
+// Puts the numbers of a slot at a place, and hands back the place past them: five stores, where a copy would first make the five an array. A run and the place in
+// it stay two parameters: the run is the caller's, and each promise would have to say besides that a writer still holds it.
 fn put_slot(slots: &mut [u32], n: usize, a: u32, b: u32, c: u32, d: u32, e: u32) -> usize
     requires { n + width ≤ length slots.old }
     ensures { Put (a ∷ b ∷ c ∷ d ∷ e ∷ []) slots.old n slots.new result }
@@ -31,7 +32,8 @@ fn put_slot(slots: &mut [u32], n: usize, a: u32, b: u32, c: u32, d: u32, e: u32)
     n + WIDTH
 }
 
-// Puts the numbers of a token, one of a text within the limit: its start is one of them whole.
+// Puts the numbers of a token, one of a text within the limit: its start is one of them whole, as is asked, so that `try_from` would have an error that cannot
+// come.
 pub fn put_token(slots: &mut [u32], n: usize, token: Token) -> usize
     requires { TokenFits slots.old n token }
     ensures { Put (slot_of token) slots.old n slots.new result }

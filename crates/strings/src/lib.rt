@@ -1,5 +1,8 @@
 // The raw check (000's `validate_raw_str`) and guarded strings (000's `guarded_double_quoted_string`): the scans, each proved equal to its rule
 // in the book, and the public calls. A count becomes one of 000's numbers where it is made: it fits, in a text that is not too long.
+//
+// A scan takes the text and the cursor as two parameters: a cursor that held its text would be three words in every answer, and every promise would have to say
+// besides that the text is the same. The scans of a guarded string take the lists beside it, and no `Source`: the call checks two lists, and not the third.
 #![tactic(auto)]
 
 ghost use Rattle.std.specs.Prelude.{◌≤◌, ◌≡◌, length, drop};
@@ -122,7 +125,8 @@ pub fn validate_raw_str(text: &[u8], prefix: usize) -> Result<Result<(), RawStrE
     Ok(raw_check(text, prefix))
 }
 
-// What is wrong with a raw string, by number. A usize is at least as wide as 000's numbers, but has no `From` of them.
+// What is wrong with a raw string, by number. A usize is at least as wide as 000's numbers, but has no `From` of them. It and the three below that give numbers
+// are named as their rules, as the guide has them, and no `From`: `Numbers` and `Result` are no types of this crate.
 fn error_numbers(error: RawStrError) -> Numbers
     ensures { result ≡ error_numbers error }
 {
