@@ -9,7 +9,6 @@ use lib.ListN.{get_or, drop}
 use borrow.Author.Tests.{ne_eqb}
 use Rattle.basics.specs.Choice.{or}
 use Rattle.classes.specs.Identifiers.{digit}
-use Rattle.classes.proofs.Points.{either_point}
 use Rattle.eaters.specs.Eat.{Eater, give, nothing, take_while, while, ◌>>◌}
 use Rattle.eaters.specs.Look.{if_eat}
 use Rattle.token.specs.declared.Base.{Base}
@@ -28,6 +27,11 @@ use Rattle.cursor.proofs.Runs.{ran_word, ran_give, ran_bind, ran_then, ran_yes, 
 use Rattle.cursor.proofs.Loops.{ran_while}
 use Rattle.numerals.specs.declared.Digits.{Digits}
 use Rattle.numerals.specs.Counts.{CountedDigits}
+
+-- what holds at two points holds of a character that is one of them
+either_point : (p : ℕ → Bool) (c k m : ℕ) → p k ≡ true → p m ≡ true → (c ≡ k) ⊎ (c ≡ m) → true ≡ p c
+either_point p c k m s t (inl e) = sym (ap p e ∙ s)
+either_point p c k m s t (inr e) = sym (ap p e ∙ t)
 
 -- the marks of a rule, named so that a test of them can be stated
 abbrev signed : ℕ → Bool
