@@ -1,5 +1,7 @@
 // One decision over the first character of a token (000's `advance_token`), proved equal to the rule in the book.
 // The end of the text is answered before, where tokens are made: here a first character c was read, and `from` is past it.
+// The text and a cursor into it stay two parameters: a cursor that held its text would be three words in every answer, and each promise would have to say besides that
+// the text is the same.
 #![tactic(auto)]
 
 ghost use Rattle.std.specs.Prelude.{◌≡◌};
@@ -99,7 +101,7 @@ fn plain(text: &[u8], c: CodePoint, from: Cursor, lists: &Lists) -> Scanned
     }
 }
 
-// Past the whitespace after a first character, and the last character of it.
+// Past the whitespace after a first character, and the last character of it: the first one, if there is no more.
 #[derive(Clone, Copy)]
 struct Blanks {
     next: Cursor,

@@ -1,4 +1,5 @@
-// What a character does in a comment, mode by mode.
+// What a character does in a comment, mode by mode. The three facts of a block stay apart, as the machine's `Mode::Block` has them: its theorems speak of any depth,
+// so that the bound which is asked is no part of a type.
 #![tactic(auto)]
 
 ghost use Rattle.std.specs.Prelude.{◌≡◌, ◌<◌};

@@ -17,7 +17,7 @@ pub enum Goes {
     Ends(bool),
 }
 
-// After a literal (mode Suffix).
+// After a literal (mode Suffix). Three functions of crate `word_turns` have this shape: the class and the mode are all that they say.
 pub fn suffix_goes(c: CodePoint, lists: &Lists) -> Goes
     ensures { result ≡ suffix_goes lists.now c }
 {

@@ -1,4 +1,7 @@
 // Literals with their suffixes: bytes and C strings are forms of the same scans, by a small choice. Each function is proved equal to its rule in the book.
+// The text and a cursor into it stay two parameters: a cursor that held its text would be three words in every answer, and each promise would have to say besides that
+// the text is the same.
+// A form or `byte` chooses the kind alone, by the small functions below: a constructor that is lent as a closure would stand in each promise as a predicate.
 #![tactic(auto)]
 
 ghost use Rattle.std.specs.Prelude.{◌≡◌};
@@ -31,6 +34,7 @@ fn single_kind(byte: bool, terminated: bool) -> LiteralKind
     }
 }
 
+// A string by its form.
 fn double_kind(form: Form, terminated: bool) -> LiteralKind
     ensures { result ≡ double_kind form terminated }
 {
@@ -41,6 +45,7 @@ fn double_kind(form: Form, terminated: bool) -> LiteralKind
     }
 }
 
+// A raw string by its form.
 fn raw_kind(form: Form, n_hashes: Option<u8>) -> LiteralKind
     ensures { result ≡ raw_kind form n_hashes }
 {
@@ -51,7 +56,7 @@ fn raw_kind(form: Form, n_hashes: Option<u8>) -> LiteralKind
     }
 }
 
-// The suffix of a literal whose body ends at `at`, if one is read.
+// The suffix of a literal whose body ends at `at`, if one is read: `suffixed` and the cursor are no Option, since the body ends there in either case.
 fn eat_literal_suffix(
     text: &[u8],
     kind: LiteralKind,

@@ -1,4 +1,4 @@
-// What a character does in a number, mode by mode.
+// What a character does in a number, mode by mode. Each mode has its function, as it has its rule in specs/Numbers.
 #![tactic(auto)]
 
 ghost use Rattle.std.specs.Prelude.{◌≡◌};
@@ -94,7 +94,7 @@ fn based_goes(some: bool, c: CodePoint, lists: &Lists) -> Goes
     }
 }
 
-// After 0x (mode InHex); `some` says that a digit came.
+// After 0x (mode InHex); `some` says that a digit came. In one function with `based_goes` both tests and the mode would be closures, which say less than two names.
 fn hex_goes(some: bool, c: CodePoint, lists: &Lists) -> Goes
     ensures { result ≡ hex_goes lists.now some c }
 {

@@ -1,4 +1,7 @@
 // Numbers, after their first digit, each function proved equal to its rule in the book. Names are 000's where it has the function.
+// The text and a cursor into it stay two parameters: a cursor that held its text would be three words in every answer, and each promise would have to say besides that
+// the text is the same.
+// `base` and `decimal` stay two rules, as in the book: a number with a base may be empty, and one without begins with a digit that was read before.
 #![tactic(auto)]
 
 ghost use Rattle.std.specs.Prelude.{◌≡◌, true};
@@ -12,14 +15,14 @@ use lists::Lists;
 use text::CodePoint;
 use token::{Base, LiteralKind};
 
-// What a scan of digits gives: the cursor past them and the underscores among them, and whether there is a digit.
+// What a scan of digits gives: the cursor past them and the underscores among them, and whether there is a digit. No Option: the cursor is given in either case.
 #[derive(Clone, Copy)]
 struct Digits {
     pub next: Cursor,
     pub some: bool,
 }
 
-// What a rule of numbers gives: the kind, and the cursor past the number. A suffix may follow every number.
+// What a rule of numbers gives: the kind, and the cursor past the number. A suffix may follow every number. It is no `Lexed`, whose kind is that of a token.
 #[derive(Clone, Copy)]
 pub struct Numeral {
     pub kind: LiteralKind,

@@ -1,4 +1,7 @@
 // What a quote and the letters r, k, b and c begin, after them, each proved equal to its rule in the book.
+// The text and a cursor into it stay two parameters: a cursor that held its text would be three words in every answer, and each promise would have to say besides that
+// the text is the same.
+// Functions that take a form hand it on: it chooses the kind alone (crate `literals`).
 #![tactic(auto)]
 
 ghost use Rattle.std.specs.Prelude.{◌≡◌};

@@ -1,4 +1,5 @@
-// What a character does in a string, in single quotes, in a lifetime and in a raw string, mode by mode.
+// What a character does in a string, in single quotes, in a lifetime and in a raw string, mode by mode. Each mode has its function, as it has its rule in specs/.
+// A count is asked to be small enough to go on: `Mode` is the machine's own data, of which theorems speak with any count, so that the bound is no part of the type.
 #![tactic(auto)]
 
 ghost use Rattle.std.specs.Prelude.{◌≡◌, ◌<◌};

@@ -33,12 +33,12 @@ module _ {s : List ℕ} {a b n : Cursor} {c : ℕ} {r : Option (ℕ × Cursor)} 
   double_other p q = inside_on double_turn i (char_at x h) 1 (rw (ne_eqb c 0x22 p, ne_eqb c 0x5C q))
 
   module _ (z : c ≡ 0x5C) {e : ℕ} (f : e ≡ get_or (rest s n) 0 0) where
-    pub double_escaped : {m : Cursor} → (e ≡ 0x5C) ⊎ ((e ≡ 0x5C → ⊥) × (e ≡ 0x22)) → Moved s n m (drop 1 (rest s n)) → Inside double_turn s a m 1
+    pub double_escaped : {m : Cursor} → (e ≡ 0x22) ⊎ (e ≡ 0x5C) → Moved s n m (drop 1 (rest s n)) → Inside double_turn s a m 1
     double_escaped (inl q) k = inside_skip double_turn i (char_at x h) 0 (rw (z, ← f, q)) k
-    double_escaped (inr q) k = inside_skip double_turn i (char_at x h) 0 (rw (z, ← f, q.1)) k
+    double_escaped (inr q) k = inside_skip double_turn i (char_at x h) 0 (rw (z, ← f, q)) k
 
-    pub double_lone : (e ≡ 0x5C → ⊥) → (e ≡ 0x22 → ⊥) → Inside double_turn s a n 1
-    double_lone q k = inside_on double_turn i (char_at x h) 1 (rw (z, ← f, ne_eqb e 0x5C q, ne_eqb e 0x22 k))
+    pub double_lone : ((e ≡ 0x22) ⊎ (e ≡ 0x5C) → ⊥) → Inside double_turn s a n 1
+    double_lone q = inside_on double_turn i (char_at x h) 1 (rw (z, ← f, ne_eqb e 0x5C (λ k. q (inr k)), ne_eqb e 0x22 (λ k. q (inl k))))
 
 -- SINGLE QUOTES
 module _ {s : List ℕ} {a b n : Cursor} {c : ℕ} {r : Option (ℕ × Cursor)} (x : r ≡ Some (c, n)) (h : Seen s b r) (i : Inside single_turn s a b 1) where

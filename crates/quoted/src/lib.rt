@@ -1,4 +1,6 @@
 // Quoted literals, each proved equal to its rule in the book. Names are 000's.
+// The text and a cursor into it stay two parameters: a cursor that held its text would be three words in every answer, and each promise would have to say besides that
+// the text is the same.
 #![tactic(auto)]
 
 ghost use Rattle.eaters.specs.Scan.{scan};
@@ -16,18 +18,18 @@ pub fn double_quoted_string(text: &[u8], from: Cursor) -> Ended
 {
     let mut cur = from;
     while let Some((c, next)) = cur.peek(text) {
-        if c == 0x22 {
-            return Ended {
-                next,
-                terminated: true,
-            };
-        }
-        cur = next;
-        if c == 0x5C {
-            let e = cur.first(text);
-            if e == 0x5C || e == 0x22 {
-                cur = cur.bump(text);
+        match c {
+            0x22 => {
+                return Ended {
+                    next,
+                    terminated: true,
+                };
             }
+            0x5C => match next.first(text) {
+                0x5C | 0x22 => cur = next.bump(text),
+                _ => cur = next,
+            },
+            _ => cur = next,
         }
     }
     Ended {
@@ -122,7 +124,7 @@ pub fn raw_rest(text: &[u8], from: Cursor, count: usize) -> Ended
     }
 }
 
-// The cursor past a raw string without its suffix, and its count of hashes, if it has one.
+// The cursor past a raw string without its suffix, and its count of hashes, if it has one. A `Repeated` always has a count.
 #[derive(Clone, Copy)]
 pub struct RawQuoted {
     pub next: Cursor,
@@ -134,7 +136,6 @@ pub fn raw_double_quoted_string(text: &[u8], from: Cursor) -> RawQuoted
     ensures { RawRan text.now from result }
 {
     let hashes = from.eat_repeated(text, 0x23);
-    let n = hashes.count;
     let quote = hashes.next;
     if quote.first(text) != 0x22 {
         return RawQuoted {
@@ -142,10 +143,10 @@ pub fn raw_double_quoted_string(text: &[u8], from: Cursor) -> RawQuoted
             count: None,
         };
     }
-    let ended = raw_rest(text, quote.bump(text), n);
+    let ended = raw_rest(text, quote.bump(text), hashes.count);
     // The limit of the rule stands here as it is, where `u8::try_from` would hide it.
-    let count = if ended.terminated && n < 256 {
-        Some(n as u8)
+    let count = if ended.terminated && hashes.count < 256 {
+        Some(hashes.count as u8)
     } else {
         None
     };

@@ -1,4 +1,6 @@
 // One character of the machine of crate `machine`, in any mode: what it does to the token before it, what begins with it, and both in one.
+// Each mode has its function, as it has its rule in specs/: the `match` over the modes is the table. `Shallow` is asked and is no part of the type: `Mode` is the
+// machine's own data, of which theorems speak with any depth.
 #![tactic(auto)]
 
 ghost use Rattle.std.specs.Prelude.{◌≡◌};
@@ -14,7 +16,7 @@ use lists::Lists;
 use machine::{Last, Mode};
 use text::CodePoint;
 
-// What was held back and is written before it: seven runs of characters, told by name, as bytes would need room.
+// What was held back and is written before it: a run of characters, told by name, as bytes would need room. `Nothing` is one of the seven runs: an Option would be matched twice.
 #[derive(Clone, Copy)]
 pub enum Before {
     Nothing,
@@ -49,7 +51,7 @@ pub enum Shown {
     None,
 }
 
-// What a character does: what is written, the mode after it, and whether a token begins with it.
+// What a character does: what is written, the mode after it, and whether a token begins with it. No Option for `begins`: the mode is there in either case.
 #[derive(Clone, Copy)]
 pub struct Stepped {
     pub before: Before,

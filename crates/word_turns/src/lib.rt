@@ -1,4 +1,5 @@
-// What a character does in a word, and after the prefix of one, of a string or of a raw string, mode by mode.
+// What a character does in a word, and after the prefix of one, of a string or of a raw string, mode by mode. Each mode has its function, as it has its rule in specs/Words:
+// those that differ in characters and modes alone would be a table, which is no plainer than a `match`.
 #![tactic(auto)]
 
 ghost use Rattle.std.specs.Prelude.{◌≡◌};

@@ -1,4 +1,6 @@
 // Identifiers, prefixes, invalid identifiers and lifetimes, each proved equal to its rule in the book. Names are 000's.
+// The text and a cursor into it stay two parameters: a cursor that held its text would be three words in every answer, and each promise would have to say besides that
+// the text is the same.
 #![tactic(auto)]
 
 ghost use Rattle.std.specs.Prelude.{◌≡◌};
@@ -25,7 +27,7 @@ fn eat_continue(text: &[u8], from: Cursor, lists: &Lists) -> Cursor
     from.eat_while(text, |c| lists.is_continue(c))
 }
 
-// An identifier, if there is one.
+// An identifier, if there is one. The infostring of crate `frontmatter` is read alike, but goes on by another class, and its rule in the book is another one.
 pub fn eat_identifier(text: &[u8], from: Cursor, lists: &Lists) -> Cursor
     ensures { Ran (identifier lists.now) text.now from result tt }
 {

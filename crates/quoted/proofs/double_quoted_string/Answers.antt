@@ -1,3 +1,4 @@
+-- `quoted::double_quoted_string` meets its contract. A turn, and the end, by the laws of Quotes.
 use Rattle.quoted.proofs.Quotes.{over_in, double_close, double_other, double_escaped, double_lone}
 use Rattle.cursor.proofs.Moves.{fewer_2}
 use Rattle.cursor.proofs.Loops.{inside_start}
@@ -9,17 +10,17 @@ loop-c-init c = inside_start _ _ _
 pub returns : goal.returns
 returns c = search over_in
 
-pub returns-then-c-eq34 : goal.returns-then-c-eq34
-returns-then-c-eq34 c = search double_close
+pub returns-in-34 : goal.returns-in-34
+returns-in-34 c = search double_close
 
 pub loop-c-preserved : goal.loop-c-preserved
 loop-c-preserved c = search double_other
 
-pub loop-c-smaller-then-c-eq92 : goal.loop-c-smaller-then-c-eq92
-loop-c-smaller-then-c-eq92 c = search fewer_2
+pub loop-c-smaller-in-92-first : goal.loop-c-smaller-in-92-first
+loop-c-smaller-in-92-first c = search fewer_2
 
-pub loop-c-preserved-then-c-eq92 : goal.loop-c-preserved-then-c-eq92
-loop-c-preserved-then-c-eq92 c = search double_escaped
+pub loop-c-preserved-in-92-first : goal.loop-c-preserved-in-92-first
+loop-c-preserved-in-92-first c = search double_escaped
 
-pub loop-c-preserved-then-c-eq92-2 : goal.loop-c-preserved-then-c-eq92-2
-loop-c-preserved-then-c-eq92-2 c = search double_lone
+pub loop-c-preserved-in_default-first : goal.loop-c-preserved-in_default-first
+loop-c-preserved-in_default-first c = search double_lone
