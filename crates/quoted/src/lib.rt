@@ -44,29 +44,23 @@ fn single_rest(text: &[u8], from: Cursor) -> Ended
     ensures { Ran (scan single_turn 0 1) text.now from result.next result.terminated }
 {
     let mut cur = from;
-    let terminated = loop {
-        let Some((c, next)) = cur.peek(text) else {
-            break false;
-        };
+    while let Some((c, next)) = cur.peek(text) {
         match c {
             0x27 => {
-                cur = next;
-                break true;
+                return Ended {
+                    next,
+                    terminated: true,
+                };
             }
-            0x2F => break false,
-            0x0A => {
-                if cur.second(text) != 0x27 {
-                    break false;
-                }
-                cur = next;
-            }
+            0x2F => break,
+            0x0A if cur.second(text) != 0x27 => break,
             0x5C => cur = next.bump(text),
             _ => cur = next,
         }
-    };
+    }
     Ended {
         next: cur,
-        terminated,
+        terminated: false,
     }
 }
 

@@ -1,19 +1,19 @@
 use Rattle.quoted.proofs.Quotes.{over_in, single_close, single_slash, single_stops, single_newline, single_escape, single_other}
-use Rattle.cursor.proofs.Moves.{fewer_2}
+use Rattle.cursor.proofs.Moves.{fewer_1, fewer_2}
 use Rattle.cursor.proofs.Loops.{inside_start}
 use Rattle.quoted.proofs.single_rest.Goals as goal
 
 pub loop-c-init : goal.loop-c-init
 loop-c-init c = inside_start _ _ _
 
-pub loop-c-preserved-in-10 : goal.loop-c-preserved-in-10
-loop-c-preserved-in-10 c = search single_newline
+pub loop-c-smaller-in-92-1 : goal.loop-c-smaller-in-92-1
+loop-c-smaller-in-92-1 c = search fewer_2
 
-pub loop-c-smaller-in-92 : goal.loop-c-smaller-in-92
-loop-c-smaller-in-92 c = search fewer_2
+pub loop-c-preserved-in-92-1 : goal.loop-c-preserved-in-92-1
+loop-c-preserved-in-92-1 c = search single_escape
 
-pub loop-c-preserved-in-92 : goal.loop-c-preserved-in-92
-loop-c-preserved-in-92 c = search single_escape
+pub loop-c-smaller : goal.loop-c-smaller
+loop-c-smaller c = search fewer_1
 
 pub loop-c-preserved : goal.loop-c-preserved
 loop-c-preserved c = search single_other
@@ -27,5 +27,8 @@ returns-in-39 c = search single_close
 pub returns-in-47 : goal.returns-in-47
 returns-in-47 c = search single_slash
 
-pub returns-then-second-ne39 : goal.returns-then-second-ne39
-returns-then-second-ne39 c = search single_stops
+pub returns-in-10 : goal.returns-in-10
+returns-in-10 c = search single_stops
+
+pub loop-c-preserved-in_default-c : goal.loop-c-preserved-in_default-c
+loop-c-preserved-in_default-c c = search single_newline
