@@ -1,5 +1,6 @@
+-- `quoted::single_rest` meets its contract. A turn, and the end, by the laws of Quotes.
 use Rattle.quoted.proofs.Quotes.{over_in, single_close, single_slash, single_stops, single_newline, single_escape, single_other}
-use Rattle.cursor.proofs.Moves.{fewer_1, fewer_2}
+use Rattle.cursor.proofs.Moves.{fewer_2}
 use Rattle.cursor.proofs.Loops.{inside_start}
 use Rattle.quoted.proofs.single_rest.Goals as goal
 
@@ -11,9 +12,6 @@ loop-c-smaller-in-92-1 c = search fewer_2
 
 pub loop-c-preserved-in-92-1 : goal.loop-c-preserved-in-92-1
 loop-c-preserved-in-92-1 c = search single_escape
-
-pub loop-c-smaller : goal.loop-c-smaller
-loop-c-smaller c = search fewer_1
 
 pub loop-c-preserved : goal.loop-c-preserved
 loop-c-preserved c = search single_other
