@@ -43,11 +43,6 @@ raised c = or (is 'e' c) (is 'E' c)
 abbrev apart : Lists → ℕ → Bool
 apart L c = or (is 'dot' c) (starting L c)
 
--- a class that holds of two characters holds of one of them
-either_point : (p : ℕ → Bool) (c k m : ℕ) → p k ≡ true → p m ≡ true → (c ≡ k) ⊎ (c ≡ m) → true ≡ p c
-either_point p c k m s t (inl e) = rw e (sym s)
-either_point p c k m s t (inr e) = rw e (sym t)
-
 neither : (x y c : ℕ) → (c ≡ x → ⊥) → (c ≡ y → ⊥) → or (eqb c x) (eqb c y) ≡ false
 neither x y c h k = rw (ne_eqb c x h, ne_eqb c y k)
 
