@@ -45,6 +45,7 @@ pub fn kept_len(kept: Kept) -> usize
 }
 
 // The bytes that wait, put at the beginning of a run: how many they are.
+#[tactic(auto, using(crate::proofs::Bytes::still_room, crate::proofs::Bytes::put_none, crate::proofs::Bytes::put_one, crate::proofs::Bytes::put_two, crate::proofs::Bytes::put_three))]
 pub fn put_kept(kept: Kept, out: &mut [u8]) -> usize
     requires { 3 ≤ length out.old }
     ensures { PutKept kept out.old out.new result }
@@ -74,20 +75,12 @@ fn kept_from(text: &[u8], at: usize) -> Kept
     requires { at ≤ length text.now }
     ensures { result ≡ to_kept (drop at text.now) }
 {
-    let left = text.len() - at;
-    if left == 0 {
-        return Kept::Nothing;
+    match &text[at..] {
+        [] => Kept::Nothing,
+        [a] => Kept::One(*a),
+        [a, b] => Kept::Two(*a, *b),
+        [a, b, c, ..] => Kept::Three(*a, *b, *c),
     }
-    let a = text[at];
-    if left == 1 {
-        return Kept::One(a);
-    }
-    let b = text[at + 1];
-    if left == 2 {
-        return Kept::Two(a, b);
-    }
-    let c = text[at + 2];
-    Kept::Three(a, b, c)
 }
 
 // What waits behind what was read: nothing, where an ill-formed sequence stands there.
@@ -102,44 +95,28 @@ pub fn kept_after(ill: Option<(usize, Cause)>, text: &[u8], at: usize) -> Kept
 }
 
 // The largest number of a mode.
+#[tactic(auto, using(crate::proofs::Depths::depth_of, crate::proofs::Depths::larger, crate::proofs::Depths::not_larger))]
 pub fn deepest(mode: Mode) -> u32
     ensures { result ≡ machine.deepest mode }
 {
     match mode {
-        Mode::Block {
-            doc: _,
-            depth,
-            last: _,
-        } => depth,
+        Mode::Block { depth, .. } => depth,
         Mode::GotRHash => 1,
-        Mode::RawHashes { hashes } => hashes,
-        Mode::RawBody { hashes } => hashes,
-        Mode::RawEnd { hashes, more } => {
-            if hashes < more {
-                return more;
-            }
-            hashes
-        }
+        Mode::RawHashes { hashes } | Mode::RawBody { hashes } => hashes,
+        Mode::RawEnd { hashes, more } => hashes.max(more),
         _ => 0,
     }
 }
 
 // Whether a state is such as the calls give: the machine has not read more than was handed in and does not wait, and is in no depth that it could not have reached.
+#[tactic(auto, using(crate::proofs::Sounds::over_count, crate::proofs::Sounds::over_kept, crate::proofs::Sounds::over_read, crate::proofs::Sounds::by_depth))]
 pub fn sound(state: KeyState) -> bool
     ensures { result ≡ sound.sound state }
 {
     let machine = state.machine;
-    let mode = machine.mode;
-    let kept = state.kept;
-    let waiting = kept_len(kept);
-    if 4294967296 < state.count {
-        return false;
-    }
-    if state.count < waiting {
-        return false;
-    }
-    if state.count - waiting < machine.at {
-        return false;
-    }
-    deepest(mode) as usize <= machine.at
+    let waiting = kept_len(state.kept);
+    state.count <= 4294967296
+        && waiting <= state.count
+        && machine.at <= state.count - waiting
+        && deepest(machine.mode) as usize <= machine.at
 }

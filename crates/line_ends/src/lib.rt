@@ -9,17 +9,15 @@ ghost use Rattle.places.specs.Found.{found_at};
 use text::{CodePoint, Decoded};
 
 // Whether a character is a CR that LF follows; `next` is the place past it.
+#[tactic(auto, using(crate::proofs::Places::lf_char, crate::proofs::Places::lf_end, crate::proofs::Places::lf_ill, crate::proofs::Places::lf_none))]
 pub fn is_cr_lf(text: &[u8], c: CodePoint, next: usize) -> bool
     ensures { result ≡ cr_lf c (chars (drop next text.now)) }
 {
-    if c == 0x0D {
-        return match text::decode(text, next) {
+    c == 0x0D
+        && match text::decode(text, next) {
             Decoded::Char(d, _) => d == 0x0A,
-            Decoded::End => false,
-            Decoded::Ill(_) => false,
-        };
-    }
-    false
+            Decoded::End | Decoded::Ill(_) => false,
+        }
 }
 
 // Whether CR CR LF stands at a place.
@@ -28,15 +26,11 @@ fn double_at(text: &[u8], at: usize) -> bool
     requires { at + 2 < length text.now }
     ensures { result ≡ double_at (drop at text.now) }
 {
-    if text[at] == 0x0D {
-        if text[at + 1] == 0x0D {
-            return text[at + 2] == 0x0A;
-        }
-    }
-    false
+    text[at] == 0x0D && text[at + 1] == 0x0D && text[at + 2] == 0x0A
 }
 
 // Where the first CR CR LF of a text begins.
+#[tactic(auto, using(places::proofs::Searches::none_before, crate::proofs::Places::double_on, crate::proofs::Places::double_few, crate::proofs::Places::double_found, crate::proofs::Places::double_none))]
 pub fn double_return(text: &[u8]) -> Option<usize>
     ensures { result ≡ found_at (double_return text.now) }
 {

@@ -1,12 +1,12 @@
 -- Whether a character is a hidden mark.
-use Prim.Native.Nat.{ℕ, ◌≤◌, ◌<◌}
-use mathlib.Core.Path.{◌≡◌, refl, sym}
+use Prim.Native.Nat.{ℕ}
+use mathlib.Core.Path.{◌≡◌, refl}
 use mathlib.Core.Bool.{Bool, true, false}
 use mathlib.Core.List.{[], ◌∷◌}
 use native.Mathlib.Omega.{arith}
 use Rattle.basics.specs.Choice.{or}
 use Rattle.basics.specs.Tests.{within, all}
-use Rattle.basics.proofs.Choices.{Within, within_true, inside_within, under_within, over_within}
+use Rattle.basics.proofs.Choices.{Within, within_true}
 use Rattle.marks.specs.Marks.{hidden, no_marks}
 
 -- THE NINE of document 02, W6, and their neighbours
@@ -18,21 +18,6 @@ neighbours = refl
 
 -- BY ITS RANGE
 module _ (c : ℕ) where
-  pub before_marks : c < 0x202A → false ≡ hidden c
-  before_marks h = sym (rw (under_within 0x202A 0x202E c h, under_within 0x2066 0x2069 c (omega arith)))
-
-  pub first_marks : 0x202A ≤ c → c ≤ 0x202E → true ≡ hidden c
-  first_marks l h = sym (rw (inside_within 0x202A 0x202E c l h))
-
-  pub between_marks : 0x202E < c → c < 0x2066 → false ≡ hidden c
-  between_marks l h = sym (rw (over_within 0x202A 0x202E c (omega arith) l, under_within 0x2066 0x2069 c h))
-
-  pub last_marks : 0x2066 ≤ c → c ≤ 0x2069 → true ≡ hidden c
-  last_marks l h = sym (rw (over_within 0x202A 0x202E c (omega arith) (omega arith), inside_within 0x2066 0x2069 c l h))
-
-  pub past_marks : 0x2069 < c → false ≡ hidden c
-  past_marks h = sym (rw (over_within 0x202A 0x202E c (omega arith) (omega arith), over_within 0x2066 0x2069 c (omega arith) h))
-
   -- all of them lie together
   pub mark_range : hidden c ≡ true → Within 0x202A 0x2069 c
   mark_range = go (within 0x202A 0x202E c) (λ e. within_true 0x202A 0x202E c e) (λ e. within_true 0x2066 0x2069 c e)

@@ -14,23 +14,15 @@ pub struct Ready {
 }
 
 // How many CRs end some bytes, two at most: what they are depends on the next byte.
+#[tactic(auto, using(crate::proofs::Returns::no_bytes, crate::proofs::Returns::last_other, crate::proofs::Returns::only_one, crate::proofs::Returns::last_one, crate::proofs::Returns::last_both))]
 fn last_returns(text: &[u8]) -> usize
     ensures { result ≡ length (last_returns text.now) }
 {
-    let n = text.len();
-    if n == 0 {
-        return 0;
+    match text {
+        [.., 0x0D, 0x0D] => 2,
+        [.., 0x0D] => 1,
+        _ => 0,
     }
-    if text[n - 1] != 0x0D {
-        return 0;
-    }
-    if n == 1 {
-        return 1;
-    }
-    if text[n - 2] != 0x0D {
-        return 1;
-    }
-    2
 }
 
 // So many bytes, and nothing that stops.
@@ -64,6 +56,7 @@ fn up_to(bad: Bad) -> Ready
 }
 
 // How many of some bytes can be read now.
+#[tactic(auto, using(crate::proofs::Calls::returns_within, crate::proofs::Calls::ready_fine))]
 pub fn readable(text: &[u8]) -> Ready
     ensures { result ≡ ready_of text.now }
 {
