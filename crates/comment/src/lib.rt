@@ -1,4 +1,6 @@
 // Whitespace and comments, each proved equal to its rule in the book. Names are 000's.
+// The text and a cursor into it stay two parameters: a cursor that held its text would be three words in every answer, and each promise would have to say besides that
+// the text is the same.
 #![tactic(auto)]
 
 ghost use Rattle.std.specs.Prelude.{◌≡◌};

@@ -1,6 +1,8 @@
 // The cursor: a place in a text, as a value that each move hands back. Its place is shut in this crate: a scan holds no width and no sum.
 //
 // Nothing is asked of the text or of the place: where no character can be read, there is the end.
+// The text and a cursor into it stay two parameters: a cursor that held its text would be three words in every answer, and each promise would have to say besides that
+// the text is the same.
 #![tactic(auto)]
 
 ghost use Rattle.std.specs.Prelude.{◌≤◌, ◌≡◌, get_or, drop};

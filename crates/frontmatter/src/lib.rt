@@ -1,6 +1,8 @@
 // Frontmatter, in linear time, proved equal to its rule in the book. Names are 000's.
 //
 // Every search goes over the text once.
+// The text and a cursor into it stay two parameters: a cursor that held its text would be three words in every answer, and each promise would have to say besides that
+// the text is the same.
 #![tactic(auto)]
 
 ghost use Rattle.std.specs.Prelude.{◌≡◌, [], ◌∷◌, true, drop};
@@ -21,7 +23,8 @@ use lists::Lists;
 use text::CodePoint;
 use token::TokenKind;
 
-// Whether these characters, all of ASCII, are at the cursor: each byte of the pattern is a character.
+// Whether these characters, all of ASCII, are at the cursor: each byte of the pattern is a character. The search is by hand, as the place is shut in a cursor, which steps by
+// characters: the words of slices go by bytes.
 fn starts_with(text: &[u8], from: Cursor, pattern: &[u8]) -> bool
     ensures { result ≡ begins pattern.now (rest text.now from) }
 {
@@ -167,7 +170,7 @@ fn infostring_rest(text: &[u8], from: Cursor, lists: &Lists) -> Cursor
     from.eat_while(text, |c| in_infostring(c, lists))
 }
 
-// The infostring, if there is one.
+// The infostring, if there is one. An identifier (crate `words`) is read alike, but goes on by another class, and its rule in the book is another one.
 fn eat_infostring(text: &[u8], from: Cursor, lists: &Lists) -> Cursor
     ensures { Ran (infostring lists.now) text.now from result tt }
 {
