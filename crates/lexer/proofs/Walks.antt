@@ -17,7 +17,8 @@ use Rattle.lexer.specs.declared.Bare.{Bare}
 use Rattle.lexer.specs.declared.Scan.{Scan}
 use Rattle.lexer.specs.Scans.{token_size, bare_at, records_from}
 use Rattle.lexer.specs.Steps.{before_of, start_of, next_of, records_past}
-use Rattle.lexer.specs.Ready.{Lined}
+use Rattle.lexer.specs.Checked.{Checked}
+use Rattle.lexer.specs.Ready.{Lined, Ready}
 use Rattle.lexer.proofs.Records.{past_token, step_records, next_boundary}
 
 -- a text begins on a boundary
@@ -117,9 +118,19 @@ module _ (L : Lists) (s : List ℕ) (c : Scan) {x : Scan} (e : x ≡ next_of L s
     fits = r.fits;
   })
 
+  -- likewise with what was checked
+  pub next_ready : Ready s L c → Ready s L x
+  next_ready r = record { checked = r.checked; lined = next_lined r.lined }
+
 -- and so is one before the first step
 pub before_lined : {s : List ℕ} {at : ℕ} {on : Bool} {c : Scan} → length s ≤ 4294967295 → at ≤ length s → c ≡ before_of s at on → Lined s c
 before_lined k h e = rw e (record { line = refl; forward = omega arith; inside = h; fits = k })
 
 pub start_lined : {s : List ℕ} {on : Bool} {c : Scan} → length s ≤ 4294967295 → c ≡ start_of on → Lined s c
 start_lined {on = on} k e = before_lined {on = on} k (omega arith) e
+
+pub before_ready : {L : Lists} {s : List ℕ} {at : ℕ} {on : Bool} {c : Scan} → Checked s L → at ≤ length s → c ≡ before_of s at on → Ready s L c
+before_ready {on = on} k h e = record { checked = k; lined = before_lined {on = on} k.fits h e }
+
+pub start_ready : {L : Lists} {s : List ℕ} {on : Bool} {c : Scan} → Checked s L → c ≡ start_of on → Ready s L c
+start_ready {on = on} k e = before_ready {on = on} k (omega arith) e

@@ -41,7 +41,15 @@ impl<'a> Model for Source<'a> {
 }
 
 impl<'a> Source<'a> {
-    // Refusals 1, 3 and 2 in this order.
+    // Of a text and lists that were checked, by whomever.
+    pub fn of(text: &'a [u8], lists: Lists<'a>) -> Source<'a>
+        requires { Checked text.now lists }
+        ensures { result ≡ record { text = text.now; lists = lists.entry } }
+    {
+        Source { text, lists }
+    }
+
+    // Of a text and lists of which nothing is known: refusals 1, 3 and 2 in this order.
     pub fn new(
         text: &'a [u8],
         starts: &'a [u32],
@@ -52,7 +60,7 @@ impl<'a> Source<'a> {
     {
         token_verdict(text, starts, continues, emoji)?;
         let lists = Lists::new(starts, continues, emoji);
-        Ok(Source { text, lists })
+        Ok(Source::of(text, lists))
     }
 
     // Its text; and that it is checked, for those who see the value alone.

@@ -34,7 +34,7 @@ abbrev pub within_limit : (s said : List ℕ) → List ℕ
 within_limit s said = pick (ltb 65536 (length s)) (refused_line (bad_numbers TooLong)) said
 
 abbrev pub unless_refused : Verdict → List ℕ → List ℕ
-unless_refused (Ok fine) said = said
+unless_refused (Ok tt) said = said
 unless_refused (Err bad) said = refused_line (bad_numbers bad)
 
 -- THE TOKENS: their lines, or one line that says why there are none

@@ -115,3 +115,8 @@ held_from k p c (low ∷ high ∷ l) g e =
 -- what a search in a good list finds
 pub held : {c : ℕ} {l : List ℕ} → Good l → in_pairs c l ≡ true → Held c
 held {c} {l} g e = held_from 0 0 c l g.pairs e
+
+-- an empty list breaks no rule
+pub nothing_good : Good []
+unfolding flaw_from
+nothing_good = record { pairs = refl }

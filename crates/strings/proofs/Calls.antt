@@ -17,6 +17,7 @@ use Rattle.text.specs.Position.{on_boundary, starts_here}
 use Rattle.text.specs.Verdicts.{too_long, utf8_verdict}
 use Rattle.text.proofs.Positions.{boundary_byte}
 use Rattle.text.proofs.Verdicts.{fine_long, fine_utf8}
+use Rattle.ranges.proofs.Laws.{nothing_good}
 use Rattle.ranges.specs.Rules.{list_verdict, Good, flaw_from}
 use Rattle.classes.specs.Answers.{ident_verdict}
 use Rattle.classes.proofs.Checks.{ident_starts, ident_continues}
@@ -67,12 +68,6 @@ module _ (s : List ℕ) {p : ℕ} where
 
     pub prefix_c : {u : Bool} → t ≡ false → u ≡ starts_with eqb s ('c' ∷ 'r' ∷ []) → u ≡ is_prefix s p
     prefix_c k g = g ∙ begins_with ('c' ∷ 'r' ∷ []) s ∙ sym (two ∙ ap (λ (v : Bool). or v (begins ('c' ∷ 'r' ∷ []) s)) k)
-
--- THE GUARDED STRING
--- an empty list breaks no rule
-nothing_good : Good []
-unfolding flaw_from
-nothing_good = record { pairs = refl }
 
 module _ (limit : ℕ) (s a b : List ℕ) {v : Verdict} (e : v ≡ ident_verdict limit s a b) (k : v ≡ fine) where
   both : first (too_long s) (first (first (list_verdict limit 0 a) (first (list_verdict limit 1 b) fine)) (utf8_verdict s)) ≡ fine

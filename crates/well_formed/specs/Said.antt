@@ -5,5 +5,5 @@ use Rattle.refusal.specs.Verdict.{Verdict}
 use Rattle.reports.specs.Lines.{why_line}
 
 abbrev pub said : Verdict → (bytes : ℕ) → List ℕ
-said (Ok done) bytes = codes "well-formed\t" ++ decimal bytes ++ codes "\n"
+said (Ok tt) bytes = codes "well-formed\t" ++ decimal bytes ++ codes "\n"
 said (Err bad) bytes = why_line bad

@@ -9,5 +9,5 @@ new-lists-requires c =
     let k = fine_checked MAX_PAIRS c.args.text.now (lent c.args.starts.now c.args.continues.now c.args.emoji.now) c.token_verdict.ensures c.in_ok-token_verdict.was in
     (k.starts, (k.continues, k.emoji))
 
-pub invariant_of-result : goal.invariant_of-result
-invariant_of-result c = rw c.new-lists.ensures (fine_checked MAX_PAIRS c.args.text.now (lent c.args.starts.now c.args.continues.now c.args.emoji.now) c.token_verdict.ensures c.in_ok-token_verdict.was)
+pub of-requires : goal.of-requires
+of-requires c = rw c.new-lists.ensures (fine_checked MAX_PAIRS c.args.text.now (lent c.args.starts.now c.args.continues.now c.args.emoji.now) c.token_verdict.ensures c.in_ok-token_verdict.was)
