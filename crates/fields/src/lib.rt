@@ -11,7 +11,7 @@ ghost use Rattle.fields.specs.Numerals.{numeral, digit_byte, digit_in, valued_fr
 ghost use Rattle.fields.specs.Numerals;
 ghost use Rattle.fields.specs.Puts.{Fits};
 
-// The place of the first mark from a place on; the end of the text where there is none.
+// The place of the first mark from a place on; the end of the text where there is none, so that a last piece with no mark after it ends there too: no Option.
 pub fn find(s: &[u8], from: usize, mark: u8) -> usize
     requires { from ≤ length s.now }
     ensures { result ≡ from + length (piece mark (drop from s.now)) }
@@ -33,7 +33,7 @@ pub fn cut(s: &[u8], mark: u8) -> Option<(&[u8], &[u8])>
     Some((&s[..end], &s[end + 1..]))
 }
 
-// Whether a field is a word.
+// Whether a field is a word: `==`, with the name that the definition has.
 pub fn is_word(field: &[u8], word: &[u8]) -> bool
     ensures { result ≡ Words.same field.now word.now }
 {
@@ -46,8 +46,8 @@ fn digit_in(base: u32, c: u8) -> Option<u32>
     ensures { result ≡ digit_in base c }
 {
     let digit = match c {
-        b'0'..=b'9' => (c - b'0') as u32,
-        b'a'..=b'f' => (c - b'a') as u32 + 10,
+        b'0'..=b'9' => u32::from(c - b'0'),
+        b'a'..=b'f' => u32::from(c - b'a') + 10,
         _ => return None,
     };
     if digit < base { Some(digit) } else { None }
@@ -91,7 +91,7 @@ pub fn number_of(field: &[u8], base: u32, most: u32) -> Option<u32>
     value_of(field, base, most)
 }
 
-// The byte of a digit.
+// The byte of a digit. By hand, as the digits of a number below: std writes numbers into a `fmt::Write`, whose promise says nothing of the place in a lent buffer.
 fn digit_byte(d: u32) -> u8
     requires { d < 16 }
     ensures { result ≡ digit_byte d }
@@ -110,6 +110,7 @@ fn lay(room: &mut [u8], base: u32, n: u32) -> usize
     ensures within { result ≤ length room.new }
     ensures laid { drop result room.new ≡ numeral base n }
 {
+    // from the end, since the last digit is known first; how many come is known only when none is left
     let mut at = room.len();
     let mut rest = n;
     loop {
@@ -134,7 +135,7 @@ fn put_numeral(out: &mut [u8], at: usize, base: u32, n: u32) -> usize
     puts::put_bytes(out, at, &room[first..])
 }
 
-// Puts a number in decimal.
+// Puts a number in decimal. With `put_hex` the two names of `put_numeral` for its callers: each asks for the room of its own base alone.
 pub fn put_decimal(out: &mut [u8], at: usize, n: u32) -> usize
     requires { Fits 10 out.old at n }
     ensures { Put (numeral 10 n) out.old at out.new result }

@@ -44,7 +44,7 @@ pub fn kept_len(kept: Kept) -> usize
     }
 }
 
-// The bytes that wait, put at the beginning of a run: how many they are.
+// The bytes that wait, put at the beginning of a run: how many they are. Byte by byte: `copy_from_slice` would want an array of each case first.
 #[tactic(auto, using(crate::proofs::Bytes::still_room, crate::proofs::Bytes::put_none, crate::proofs::Bytes::put_one, crate::proofs::Bytes::put_two, crate::proofs::Bytes::put_three))]
 pub fn put_kept(kept: Kept, out: &mut [u8]) -> usize
     requires { 3 ≤ length out.old }

@@ -5,7 +5,8 @@
 use machine::State;
 use refusal::Cause;
 
-// The bytes that wait: CR, CR CR, or the first bytes of a character.
+// The bytes that wait: CR, CR CR, or the first bytes of a character. Each count is a case: an array with a length beside it would be one state in many values, and
+// `None` in an `Option` of it would say what `Nothing` says.
 #[derive(Clone, Copy)]
 pub enum Kept {
     Nothing,

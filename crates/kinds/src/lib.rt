@@ -209,7 +209,7 @@ pub fn kind_code(kind: TokenKind) -> u32
     kind_number(kind) + 64 * kind_detail(kind)
 }
 
-// Where the suffix of a literal starts; 0 for every other kind.
+// Where the suffix of a literal starts; 0 for every other kind, as the field of the C interface has it.
 pub fn suffix_of(kind: TokenKind) -> u32
     ensures { result ≡ suffix_of kind }
 {

@@ -52,7 +52,7 @@ pub fn record_of(line: &[u8]) -> Option<Entry>
     })
 }
 
-// A number of a version.
+// A number of a version. `as`, since it is at most 65535: `u16::try_from` would have a case that never comes.
 fn decimal(field: &[u8]) -> Option<u16>
     ensures { result ≡ decimal field.now }
 {

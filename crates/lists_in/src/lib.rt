@@ -58,7 +58,7 @@ pub fn read_numbers(answer: Result<Held, ReadRefusal>) -> Numbers
     }
 }
 
-// One for each of the three lists.
+// One for each of the three lists: of any type, where `lists::Lists` is the three slices once they are checked.
 #[derive(Clone, Copy)]
 struct Each<T> {
     starts: T,
@@ -144,7 +144,7 @@ fn none_yet() -> Each<Tally>
     }
 }
 
-// The lines after the first, which begin at a place. Err is the number of the first bad line.
+// The lines after the first, which begin at a place. Err is the number of the first bad line, alone: `ReadRefusal::Line` is made of it once, in `read_lists`.
 fn survey_records(file: &[u8], version: Version, from: usize) -> Result<Found, usize>
     requires { Starting from (length file.now) }
     ensures { result ≡ surveyed from (load_at 1 0 version none (drop from file.now)) }
@@ -193,7 +193,7 @@ fn verdict_of(which: usize, t: Tally) -> Result<(), Bad>
     }
 }
 
-// Refusal 7: the first list for which a run has too little room.
+// Refusal 7: the first list for which a run has too little room. The numbers are copied one by one: `Held` has fields of its own, which the public call names.
 fn roomed_for(
     version: Version,
     numbers: Each<usize>,

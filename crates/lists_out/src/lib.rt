@@ -42,7 +42,7 @@ pub fn write_numbers(answer: Result<usize, WriteRefusal>) -> Numbers
     }
 }
 
-// The name of a list.
+// The name of a list, which is known by its number, here and below, as beside refusal 3.
 fn name_of(which: usize) -> &'static [u8]
     ensures { result.now ≡ name_of which }
 {
@@ -66,7 +66,7 @@ fn put_record(out: &mut [u8], at: usize, which: usize, low: u32, high: u32) -> u
     puts::put_byte(out, end, b'\n')
 }
 
-// Puts a tab and a number in decimal.
+// Puts a tab and a number in decimal. `as`, which loses nothing here: with `u32::from` the clause would speak of another number than the one that is put.
 fn put_number(out: &mut [u8], at: usize, n: u16) -> usize
     requires { at + length (numeral 10 n) + 1 ≤ length out.old }
     ensures { Put (tab ∷ numeral 10 n) out.old at out.new result }

@@ -107,7 +107,7 @@ pub struct Token {
     pub line: u32,
 }
 
-// What `guarded_double_quoted_string` finds: the hashes before it, whether it ends, and its bytes.
+// What `guarded_double_quoted_string` finds, field by field as 000 has it: the hashes before it, whether it ends, and its bytes.
 #[derive(Clone, Copy, PartialEq, Eq)]
 pub struct GuardedStr {
     pub n_hashes: u32,
