@@ -25,7 +25,8 @@ fn mark_at(text: &[u8], at: usize) -> bool
     text[at] == 0xE2 && matches!(text::decode(text, at), Decoded::Char(c, _) if is_hidden(c))
 }
 
-// Where the first hidden direction mark of a text that was checked stands. Eight bytes of ASCII are taken in one turn, and else one byte.
+// Where the first hidden direction mark of a text that was checked stands. Eight bytes of ASCII are taken in one turn, and else one byte:
+// no iterator of std goes on by both.
 #[tactic(auto, using(places::proofs::Searches::none_before, crate::proofs::Places::mark_found, crate::proofs::Places::mark_on, crate::proofs::Places::mark_run, crate::proofs::Places::mark_none))]
 pub fn hidden_mark(text: &[u8]) -> Option<usize>
     requires { WellFormed text.now }
