@@ -121,6 +121,9 @@ module _ {w : Bool} {b : Before} {o : List ℕ} {n : ℕ} where
   pub stars_laid : {p : List ℕ} {r : ℕ} → b ≡ Stars → Laid w (47 ∷ 42 ∷ 42 ∷ []) o n p r → Laid w (before_out b) o n p r
   stars_laid e l = as_laid e l
 
+pub laid_length_2 : {w : Bool} {xs ys o p q : List ℕ} {n k r : ℕ} → Laid w xs o n p k → Laid w ys p k q r → length q ≡ length o
+laid_length_2 l m = laid_length m ∙ laid_length l
+
 -- A STEP
 module _ {w : Bool} {b : Before} {s : Shown} {text o : List ℕ} {i next n : ℕ} (y : Laying w b s text i next o n) where
   pub held_room : Room w o n (length (before_out b))

@@ -7,6 +7,7 @@ use lib.ListN.{length, take, drop, length-drop, length-append}
 use lib.Seq.{take_at}
 use native.Mathlib.Omega.{arith}
 use Rattle.basics.specs.Choice.{pick}
+use Rattle.refusal.specs.declared.Cause.{Cause}
 use Rattle.text.specs.declared.Decoded.{Decoded}
 use Rattle.text.specs.declared.Decoded.TheVariants.{Char, End, Ill}
 use Rattle.text.specs.Utf8.{decoded}
@@ -167,8 +168,11 @@ module _ (w : Bool) (L : Lists) (s : State) (text o : List ℕ) (i : ℕ) (mode 
         state = ap (λ (x : stream.Fed State). x.state) y;
       }
 
-  -- what stands there is no character
-  pub upto_over : {r : Decoded} → r ≡ decoded (drop i text) → ((c k : ℕ) → r ≡ Char c k → ⊥) → Fed w L s text o out (record { state = state mode from at; n = n })
-  upto_over {r = Char c k} p q = absurd (q c k refl)
-  upto_over {r = End} p q = over (end_chars text i p refl)
-  upto_over {r = Ill k} p q = over (ill_chars text i p refl)
+  pub upto_end : {r : Decoded} → r ≡ decoded (drop i text) → r ≡ End → Fed w L s text o out (record { state = state mode from at; n = n })
+  upto_end p q = over (end_chars text i p q)
+
+  pub upto_ill : {r : Decoded} {k : Cause} → r ≡ decoded (drop i text) → r ≡ Ill k → Fed w L s text o out (record { state = state mode from at; n = n })
+  upto_ill p q = over (ill_chars text i p q)
+
+  pub upto_long : length out ≡ length o
+  upto_long = laid_length u.laid

@@ -1,5 +1,9 @@
 // The machine of the key (crate `machine`) over a run of bytes, with CR LF read as LF: what is known of the key is laid into a lent buffer, or only
 // counted. A key is measured and written by the same code.
+//
+// Whether bytes are written is an argument (`writing`): with a const parameter for it, and what is held back as one slice, it proved, and a key took half as much
+// time again. A buffer and the place in it (`out`, `n`) stay two parameters, as a text and a position do: a writer that held both would borrow the buffer for as
+// long as a state lives.
 #![tactic(auto)]
 
 ghost use Rattle.std.specs.Prelude.{◌≡◌, length};
@@ -19,34 +23,35 @@ use text::{CodePoint, Decoded};
 use turns::{Before, Shown};
 
 // Lays bytes at a place, and hands back the place past them.
-fn lay<const WRITING: bool>(s: &[u8], out: &mut [u8], n: usize) -> usize
-    requires { Room WRITING out.old n (length s.now) }
-    ensures { Laid WRITING s.now out.old n out.new result }
+fn lay(writing: bool, s: &[u8], out: &mut [u8], n: usize) -> usize
+    requires { Room writing out.old n (length s.now) }
+    ensures { Laid writing s.now out.old n out.new result }
 {
-    if WRITING {
+    if writing {
         return puts::put_bytes(out, n, s);
     }
     n + s.len()
 }
 
 // What was held back.
-fn lay_before<const WRITING: bool>(before: Before, out: &mut [u8], n: usize) -> usize
-    requires { Room WRITING out.old n (length (before_out before)) }
-    ensures { Laid WRITING (before_out before) out.old n out.new result }
+fn lay_before(writing: bool, before: Before, out: &mut [u8], n: usize) -> usize
+    requires { Room writing out.old n (length (before_out before)) }
+    ensures { Laid writing (before_out before) out.old n out.new result }
 {
     match before {
         Before::Nothing => n,
-        Before::Newline => lay::<WRITING>(b"\n", out, n),
-        Before::Slash => lay::<WRITING>(b"/", out, n),
-        Before::Slashes => lay::<WRITING>(b"//", out, n),
-        Before::Slashes3 => lay::<WRITING>(b"///", out, n),
-        Before::Star => lay::<WRITING>(b"/*", out, n),
-        Before::Stars => lay::<WRITING>(b"/**", out, n),
+        Before::Newline => lay(writing, b"\n", out, n),
+        Before::Slash => lay(writing, b"/", out, n),
+        Before::Slashes => lay(writing, b"//", out, n),
+        Before::Slashes3 => lay(writing, b"///", out, n),
+        Before::Star => lay(writing, b"/*", out, n),
+        Before::Stars => lay(writing, b"/**", out, n),
     }
 }
 
 // What was held back, and then what is shown of the character that stands from `i` to `next`.
-fn lay_step<const WRITING: bool>(
+fn lay_step(
+    writing: bool,
     before: Before,
     shown: Shown,
     text: &[u8],
@@ -55,13 +60,13 @@ fn lay_step<const WRITING: bool>(
     out: &mut [u8],
     n: usize,
 ) -> usize
-    requires { Laying WRITING before shown text.now i next out.old n }
-    ensures { Laid WRITING (step_bytes before shown text.now i next) out.old n out.new result }
+    requires { Laying writing before shown text.now i next out.old n }
+    ensures { Laid writing (step_bytes before shown text.now i next) out.old n out.new result }
 {
-    let k = lay_before::<WRITING>(before, out, n);
+    let k = lay_before(writing, before, out, n);
     match shown {
-        Shown::Itself => lay::<WRITING>(&text[i..next], out, k),
-        Shown::Line => lay::<WRITING>(b"\n", out, k),
+        Shown::Itself => lay(writing, &text[i..next], out, k),
+        Shown::Line => lay(writing, b"\n", out, k),
         Shown::None => k,
     }
 }
@@ -70,10 +75,13 @@ fn lay_step<const WRITING: bool>(
 fn begun(begins: bool, here: usize, before: usize) -> usize
     ensures { result ≡ pick begins here before }
 {
-    if begins { here } else { before }
+    if begins {
+        return here;
+    }
+    before
 }
 
-// The mode after a character, the place of the token begun, and the place past what was laid.
+// The mode after a character, the place of the token begun, and the place past what was laid. No `State`: the loop counts the bytes itself.
 #[derive(Clone, Copy)]
 pub struct Kept {
     pub mode: Mode,
@@ -82,7 +90,8 @@ pub struct Kept {
 }
 
 // ONE CHARACTER, which stands from `i` to `next`.
-fn feed_char<const WRITING: bool>(
+fn feed_char(
+    writing: bool,
     mode: Mode,
     from: usize,
     at: usize,
@@ -94,16 +103,17 @@ fn feed_char<const WRITING: bool>(
     out: &mut [u8],
     n: usize,
 ) -> Kept
-    requires { CharFeeding WRITING lists.now mode from at c text.now i next out.old n }
-    ensures { CharFed WRITING (step lists.now from at mode c) out.old n out.new result }
+    requires { CharFeeding writing lists.now mode from at c text.now i next out.old n }
+    ensures { CharFed writing (step lists.now from at mode c) out.old n out.new result }
 {
     let stepped = turns::step(mode, c, lists);
     let before = stepped.before;
     let shown = stepped.shown;
-    let past = lay_step::<WRITING>(before, shown, text, i, next, out, n);
+    let after = stepped.mode;
+    let past = lay_step(writing, before, shown, text, i, next, out, n);
     let place = begun(stepped.begins, at, from);
     Kept {
-        mode: stepped.mode,
+        mode: after,
         from: place,
         n: past,
     }
@@ -118,25 +128,33 @@ pub struct Ran {
 
 // A RUN OF BYTES, from a state of the machine on. It ends at an ill-formed sequence, as its characters do. The parts of the state are locals of their own while
 // it runs.
-pub fn run<const WRITING: bool>(start: State, text: &[u8], lists: &Lists, out: &mut [u8]) -> Ran
-    requires { Feeding WRITING lists.now start text.now out.old }
-    ensures { Fed WRITING lists.now start text.now out.old out.new result }
+pub fn run(writing: bool, start: State, text: &[u8], lists: &Lists, out: &mut [u8]) -> Ran
+    requires { Feeding writing lists.now start text.now out.old }
+    ensures { Fed writing lists.now start text.now out.old out.new result }
 {
     let mut mode = start.mode;
     let mut from = start.from;
     let mut at = start.at;
     let mut i: usize = 0;
     let mut n: usize = 0;
-    while let Decoded::Char(c, w) = text::decode(text, i) {
-        let next = i + w;
-        if !line_ends::is_cr_lf(text, c, next) {
-            let kept = feed_char::<WRITING>(mode, from, at, c, text, i, next, lists, out, n);
-            mode = kept.mode;
-            from = kept.from;
-            n = kept.n;
-            at += w;
+    loop {
+        match text::decode(text, i) {
+            Decoded::Char(c, w) => {
+                let next = i + w;
+                if line_ends::is_cr_lf(text, c, next) {
+                    i = next;
+                    continue;
+                }
+                let kept = feed_char(writing, mode, from, at, c, text, i, next, lists, out, n);
+                mode = kept.mode;
+                from = kept.from;
+                n = kept.n;
+                at += w;
+                i = next;
+            }
+            Decoded::End => break,
+            Decoded::Ill(_) => break,
         }
-        i = next;
     }
     Ran {
         state: State { mode, from, at },
@@ -182,32 +200,33 @@ pub struct Broken {
 }
 
 // THE BYTES THAT ARE LEFT, from a state of the machine on, and then the end: how many bytes the rest of the key takes; where it is to be written, it is laid too.
-pub fn close<const WRITING: bool>(
+pub fn close(
+    writing: bool,
     start: State,
     text: &[u8],
     lists: &Lists,
     out: &mut [u8],
 ) -> Result<usize, Broken>
-    requires { Closing WRITING lists.now start text.now out.old }
-    ensures { Closed WRITING lists.now start text.now out.old out.new result }
+    requires { Closing writing lists.now start text.now out.old }
+    ensures { Closed writing lists.now start text.now out.old out.new result }
 {
-    let ran = run::<WRITING>(start, text, lists, out);
+    let ran = run(writing, start, text, lists, out);
     let state = ran.state;
     match end_of(state.mode) {
         None => Err(Broken { start: state.from }),
-        Some(before) => Ok(lay_before::<WRITING>(before, out, ran.n)),
+        Some(before) => Ok(lay_before(writing, before, out, ran.n)),
     }
 }
 
 // A WHOLE TEXT: how many bytes its key takes; where it is to be written, it is laid too.
-pub fn whole<const WRITING: bool>(text: &[u8], lists: &Lists, out: &mut [u8]) -> Result<usize, Broken>
-    requires { KeyReady WRITING lists.now text.now out.old }
-    ensures { KeyMade WRITING lists.now text.now out.old out.new result }
+pub fn whole(writing: bool, text: &[u8], lists: &Lists, out: &mut [u8]) -> Result<usize, Broken>
+    requires { KeyReady writing lists.now text.now out.old }
+    ensures { KeyMade writing lists.now text.now out.old out.new result }
 {
     let begin = State {
         mode: Mode::Start { gap: false },
         from: 0,
         at: 0,
     };
-    close::<WRITING>(begin, text, lists, out)
+    close(writing, begin, text, lists, out)
 }

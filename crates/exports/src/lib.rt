@@ -2,6 +2,9 @@
 //
 // Every answer begins with three numbers: the refusal's number in document 01's table (0: done), and the two numbers beside it. A slice goes in as a
 // pointer and a count.
+//
+// The C interface wants flat structs of numbers and flags, each with its three numbers first and zeros where a call refuses: so no `Option`, no `Result`, no struct
+// in a struct, the parameters as C has them, and a function named as its rule in specs/ for each answer, where a `From` would stand for a rule that has a name.
 #![tactic(auto)]
 
 ghost use Rattle.std.specs.Prelude.{◌≡◌, true};
@@ -206,7 +209,8 @@ fn ran_out(tokens: usize, scan: Scan) -> RunAnswer
     }
 }
 
-// Writes the numbers of the tokens from a position on, until the text or the slots end.
+// Writes the numbers of the tokens from a position on, until the text or the slots end. Its loop ends at the slots, where that of `slots::fill` has room for all
+// tokens: one function for both would count them first.
 fn put_run(source: &Source, at: usize, on: bool, slots: &mut [u32]) -> RunAnswer
     requires { on_boundary source.now.text at ≡ true }
     ensures { RunPut source.now.lists source.now.text at on slots.old slots.new result }
@@ -389,6 +393,7 @@ fn is_version(major: u32, minor: u32, update: u32) -> bool
     major <= 65535 && minor <= 65535 && update <= 65535
 }
 
+// Once `is_version` has let the numbers through: `u16::try_from` would have errors that cannot come, three of them.
 fn version_of(major: u32, minor: u32, update: u32) -> Version
     requires { VersionFits (version major minor update) }
     ensures { result ≡ version major minor update }

@@ -1,5 +1,5 @@
 // What C and other languages link, under the names of bindings/c/lovemudarn.h: each function is that of `exports`, with the same clauses. A library that
-// Rattle crates use is no archive that C links, so that these stand in a crate of their own.
+// Rattle crates use is no archive that C links, so that these stand in a crate of their own. The parameters and the answers are those of the C interface.
 #![tactic(auto)]
 
 ghost use Rattle.std.specs.Prelude.{◌≡◌};

@@ -38,7 +38,8 @@ impl From<engine::Broken> for KeyRefusal {
     }
 }
 
-// The answer of the key call by number: done, with the key's bytes, or the refusal.
+// The answer of the key call by number: done, with the key's bytes, or the refusal. Named as its rule, as the guide has it, and no `From`: neither type is this
+// crate's.
 pub fn key_numbers(answer: Result<usize, KeyRefusal>) -> Numbers
     ensures { result ≡ key_numbers answer }
 {
@@ -58,11 +59,11 @@ fn checked_key(source: &Source, out: &mut [u8]) -> Result<usize, KeyRefusal>
 {
     let text = source.text();
     let lists = source.lists();
-    let bytes = engine::whole::<false>(text, lists, out)?;
+    let bytes = engine::whole(false, text, lists, out)?;
     if out.len() < bytes {
         return Err(KeyRefusal::Room(bytes));
     }
-    Ok(engine::whole::<true>(text, lists, out)?)
+    Ok(engine::whole(true, text, lists, out)?)
 }
 
 // PUBLIC. The key of a text, in the first bytes of a lent buffer. Refusals 1, 3, 2, 10, 11, 6 and 7 in this order; none of them writes a byte.

@@ -3,10 +3,10 @@ use Rattle.engine.proofs.Feeds.{char_steps, char_lays, char_fed}
 use Rattle.engine.proofs.feed_char.Goals as goal
 
 pub step-stepped-requires : goal.step-stepped-requires
-step-stepped-requires g c = search char_steps
+step-stepped-requires c = search char_steps
 
 pub lay_step-past-requires : goal.lay_step-past-requires
-lay_step-past-requires g c = search char_lays
+lay_step-past-requires c = search char_lays
 
 pub returns : goal.returns
-returns g c = search char_fed
+returns c = search char_fed

@@ -3,19 +3,19 @@ use Rattle.engine.proofs.Lays.{held_room, itself_room, itself_laid, line_room, l
 use Rattle.engine.proofs.lay_step.Goals as goal
 
 pub lay_before-k-requires : goal.lay_before-k-requires
-lay_before-k-requires g c = search held_room
+lay_before-k-requires c = search held_room
 
 pub lay-requires : goal.lay-requires
-lay-requires g c = search itself_room
+lay-requires c = search itself_room
 
 pub lay-requires-in-Line : goal.lay-requires-in-Line
-lay-requires-in-Line g c = search line_room
+lay-requires-in-Line c = search line_room
 
 pub returns-in-Itself : goal.returns-in-Itself
-returns-in-Itself g c = search itself_laid
+returns-in-Itself c = search itself_laid
 
 pub returns-in-Line : goal.returns-in-Line
-returns-in-Line g c = search line_laid
+returns-in-Line c = search line_laid
 
 pub returns-in-None : goal.returns-in-None
-returns-in-None g c = search shown_none
+returns-in-None c = search shown_none

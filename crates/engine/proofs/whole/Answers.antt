@@ -3,7 +3,7 @@ use Rattle.engine.proofs.Wholes.{whole_closes, whole_made}
 use Rattle.engine.proofs.whole.Goals as goal
 
 pub close-requires : goal.close-requires
-close-requires g c = search whole_closes
+close-requires c = search whole_closes
 
 pub returns : goal.returns
-returns g c = search whole_made
+returns c = search whole_made
