@@ -21,7 +21,7 @@ use Rattle.cursor.specs.Counted.{Counted}
 use Rattle.cursor.specs.Moved.{over, arrive, left_of, no_more}
 use Rattle.cursor.proofs.Moves.{char_at, end_at}
 use Rattle.frontmatter.specs.Searches.{SoughtAt}
-use Rattle.frontmatter.proofs.Seeks.{shift, shift_none, shift_more, shift_further, Seeking, seeking, seek_past, seek_on, seek_at, seek_gone, first_here, first_on, first_none}
+use Rattle.frontmatter.proofs.Seeks.{shift, shift_none, shift_more, shift_further, Seeking, seek_past, seek_on, seek_at, seek_gone, first_here, first_on, first_none}
 
 -- how many dashes are at the front
 abbrev run : List ℕ → ℕ
@@ -79,9 +79,6 @@ over_dashes n (c ∷ cs) = go (eqb c 0x2D) refl (over_dashes n cs)
 -- the search from here is the search from the start
 pub record Fencing (n : ℕ) (s : List ℕ) (a b : Cursor) : Type 0 where
   pub seek : Seeking s a b (further (fence n (rest s a))) (further (fence n (rest s b)))
-
-pub fencing : (n : ℕ) (s : List ℕ) (a : Cursor) → Fencing n s a a
-fencing n s a = record { seek = seeking s a (further (fence n (rest s a))) }
 
 module _ {n : ℕ} {s : List ℕ} {a b : Cursor} (i : Fencing n s a b) {r : Option (ℕ × Cursor)} (h : Seen s b r) where
   pub fencing_over : r ≡ None → SoughtAt s a (further (fence n (rest s a))) None

@@ -8,7 +8,7 @@ use lib.Dec.{eqb}
 use lib.ListN.{length, get_or, drop}
 use lib.Seq.{drop-cons}
 use native.Mathlib.Omega.{arith}
-use borrow.Author.Tests.{ne_eqb, eq-eqb}
+use borrow.Author.Tests.{eq-eqb}
 use Rattle.basics.specs.Choice.{and}
 use Rattle.eaters.specs.Look.{begins}
 use Rattle.cursor.specs.declared.Cursor.{Cursor}
@@ -38,12 +38,7 @@ pub record Matching (l s : List ℕ) (a b : Cursor) (i : ℕ) : Type 0 where
   pub same : begins (drop i l) (rest s b) ≡ begins l (rest s a)
   pub few : i ≤ length l
 
-pub matching_none : (l s : List ℕ) (a : Cursor) → Matching l s a a 0
-matching_none l s a = record { same = refl; few = omega arith }
-
 module _ {l s : List ℕ} {a b : Cursor} {i : ℕ} (m : Matching l s a b i) where
-  pub matched : length l ≤ i → true ≡ begins l (rest s a)
-  matched h = sym (begins_all l i (rest s b) h) ∙ m.same
 
   module _ (o : i < length l) {r : Option (ℕ × Cursor)} (h : Seen s b r) where
     pub matching_over : r ≡ None → false ≡ begins l (rest s a)
@@ -54,9 +49,6 @@ module _ {l s : List ℕ} {a b : Cursor} {i : ℕ} (m : Matching l s a b i) wher
       step =
           sym m.same ∙ ap (begins (drop i l)) (char_at e h).chars ∙ begins_step l i c (rest s d) o
           ∙ ap (λ (x : ℕ). and (eqb c x) (begins (drop (i + 1) l) (rest s d))) (sym f)
-
-      pub matching_other : (c ≡ w → ⊥) → false ≡ begins l (rest s a)
-      matching_other q = sym (step ∙ ap (λ (t : Bool). and t (begins (drop (i + 1) l) (rest s d))) (ne_eqb c w q))
 
       pub matching_on : c ≡ w → Matching l s a d (i + 1)
       matching_on q =

@@ -16,7 +16,7 @@ use Rattle.cursor.specs.Cursors.{rest, Seen}
 use Rattle.cursor.specs.Moved.{Moved, left_of}
 use Rattle.cursor.proofs.Moves.{char_at, end_at}
 use Rattle.frontmatter.specs.Searches.{SoughtAt, there, gone}
-use Rattle.frontmatter.proofs.Seeks.{shift, shift_none, shift_more, Seeking, seeking, seek_past, seek_on, seek_here, seek_gone}
+use Rattle.frontmatter.proofs.Seeks.{shift, shift_none, shift_more, Seeking, seek_past, seek_on, seek_here, seek_gone}
 use Rattle.frontmatter.proofs.Fences.{fence}
 
 -- THE LAST SEARCH, one step of the definition
@@ -52,9 +52,6 @@ last_on blank c cs e = ap (λ (t : Bool). pick t (pick blank (at 0) (further (la
 -- the search from here is the search from the start
 pub record Lasting (s : List ℕ) (a b : Cursor) (blank : Bool) : Type 0 where
   pub seek : Seeking s a b (last_search 0 true (rest s a)) (last_search 0 blank (rest s b))
-
-pub lasting : (s : List ℕ) (a : Cursor) → Lasting s a a true
-lasting s a = record { seek = seeking s a (last_search 0 true (rest s a)) }
 
 module _ {s : List ℕ} {a b : Cursor} {blank : Bool} (i : Lasting s a b blank) {t : Bool} (q : t ≡ begins (dashes 3) (rest s b)) where
   module _ (y : t ≡ true) where

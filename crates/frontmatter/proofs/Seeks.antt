@@ -84,9 +84,6 @@ first_none l e = ap (λ (t : Bool). pick t (at 0) nowhere) e
 pub record Finding (l s : List ℕ) (a b : Cursor) : Type 0 where
   pub seek : Seeking s a b (first l (rest s a)) (first l (rest s b))
 
-pub finding : (l s : List ℕ) (a : Cursor) → Finding l s a a
-finding l s a = record { seek = seeking s a (first l (rest s a)) }
-
 module _ {l s : List ℕ} {a b : Cursor} (i : Finding l s a b) {t : Bool} (q : t ≡ begins l (rest s b)) where
   pub found : t ≡ true → SoughtAt s a (first l (rest s a)) (Some b)
   found y = seek_here i.seek (first_here l (rest s b) (sym q ∙ y))

@@ -1,6 +1,6 @@
 -- The search for the first token that is not trivia, in the facts of the code.
 use Prim.Native.Nat.{ℕ, ◌<◌}
-use mathlib.Core.Path.{◌≡◌, refl, sym, ap, subst, ◌∙◌}
+use mathlib.Core.Path.{◌≡◌, sym, ap, subst, ◌∙◌}
 use mathlib.Core.Bool.{Bool, true, false, not}
 use mathlib.Core.List.{List}
 use lib.ListN.{length}
@@ -35,9 +35,6 @@ off_plain c {L} {s} {a} {r} e b =
 -- the search began at a; it is at b, and the answer from here is the answer from there
 pub record Sought (s : List ℕ) (a b : Cursor) : Type 0 where
   pub same : bracketed none (rest s b) ≡ bracketed none (rest s a)
-
-pub sought_start : (s : List ℕ) (a : Cursor) → Sought s a a
-sought_start s a = record { same = refl }
 
 pub sought_over : {s : List ℕ} {a b : Cursor} {r : Option (ℕ × Cursor)} → r ≡ None → Seen s b r → Sought s a b → false ≡ bracketed none (rest s a)
 sought_over x h i = sym (bracket_none none) ∙ ap (bracketed none) (sym (end_at x h)) ∙ i.same

@@ -37,9 +37,6 @@ at_other c cs n m = rw (ne_eqb c 0x0A n, ne_eqb c 0x0D m)
 pub record Lined (s : List ℕ) (a b : Cursor) : Type 0 where
   pub same : b.at + line_bytes (rest s b) ≡ a.at + line_bytes (rest s a)
 
-pub lined_start : (s : List ℕ) (a : Cursor) → Lined s a a
-lined_start s a = record { same = refl }
-
 module _ {s : List ℕ} {a b : Cursor} {r : Option (ℕ × Cursor)} (h : Seen s b r) (i : Lined s a b) where
   stop : line_bytes (rest s b) ≡ 0 → b.at ≡ a.at + line_bytes (rest s a)
   stop e = omega (arith, i.same, e)

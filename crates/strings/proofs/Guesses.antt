@@ -63,9 +63,6 @@ over_hashes p g (c ∷ cs) = go (eqb c 0x23) refl (over_hashes (p + width c) g c
 pub record Guessing (s : List ℕ) (a b : Cursor) (g : Guessed) : Type 0 where
   pub same : guess b.at (guess_of g) (rest s b) ≡ guess a.at unguessed (rest s a)
 
-pub guessing_start : (s : List ℕ) (a : Cursor) → Guessing s a a (record { most = 0; offset = None })
-guessing_start s a = record { same = refl }
-
 module _ {s : List ℕ} {a b : Cursor} {g : Guessed} {r : Option (ℕ × Cursor)} (i : Guessing s a b g) (h : Seen s b r) where
   pub guessing_over : r ≡ None → guess_of g ≡ guess a.at unguessed (rest s a)
   guessing_over e = sym (guess_over b.at (guess_of g)) ∙ ap (guess b.at (guess_of g)) (sym (end_at e h)) ∙ i.same
