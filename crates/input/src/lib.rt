@@ -17,6 +17,7 @@ pub fn read_full<R: Read>(from: &mut R, buf: &mut [u8]) -> io::Result<usize>
     ensures end { IfOk result (λ n. n < length buf.new → IsAtEnd (R.remaining from.new)) }
 {
     let mut done = 0;
+    // a loop over the place: std's readers have no call that fills a buffer as far as the input goes and says how far that was
     while done < buf.len() {
         let n = from.read(&mut buf[done..])?;
         if n == 0 {

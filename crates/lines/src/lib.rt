@@ -21,6 +21,7 @@ pub fn fill(source: &Source, at: usize, out: &mut [u8]) -> Chunk
 {
     let mut next = at;
     let mut used = 0;
+    // by position: each token says where the next one begins
     while 33 <= out.len() - used {
         let token = lexer::bare_token(source, next, false);
         if token.len == 0 {

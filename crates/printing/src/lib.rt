@@ -26,6 +26,7 @@ fn say_lines<W: Write>(to: &mut W, source: &Source) -> io::Result<()>
 {
     let mut out: [u8; 16384] = input::filled(0);
     let mut at = 0;
+    // by position, part by part: each says where the next one begins
     loop {
         let chunk = lines::fill(source, at, &mut out);
         if chunk.next == at {
@@ -57,6 +58,7 @@ fn say_lined<W: Write>(to: &mut W, source: &Source) -> io::Result<()>
     let mut used: usize = 0;
     let text = source.text();
     let mut scan = source.start(false);
+    // from scan to scan: each says where the next one begins
     while scan.next < text.len() {
         scan = lexer::step(source, scan);
         let token = scan.token;

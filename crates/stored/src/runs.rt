@@ -4,7 +4,7 @@ ghost use Rattle.std.specs.Prelude.{◌≤◌, length, IfSome};
 use crate::Lent;
 use refusal::Numbers;
 
-// Numbers that no call gives: the answers of a run of numbers differ.
+// Numbers that no call gives: the answers of a run of numbers differ. Numbers, and no Option: they are put as an answer.
 fn mixed() -> Numbers {
     refusal::refused(255, 0)
 }

@@ -14,7 +14,7 @@ fn as_byte(text: &[u8]) -> u8 {
     (n.second % 4 * 64 + n.beside % 64) as u8
 }
 
-// The verdict on a text of at most 8 bytes followed by b.
+// The verdict on a text of at most 8 bytes followed by b. 255 for a longer one: each of the 256 answers is one byte.
 fn followed_by(text: &[u8], b: u8) -> u8 {
     if 8 < text.len() {
         return 255;

@@ -10,7 +10,8 @@ ghost use Rattle.vectors.specs.Placed.{Placed, VectorPlaced};
 
 use refusal::Numbers;
 
-// A part of a file, from its first place to the place past it.
+// A part of a file, from its first place to the place past it. Places, and no slice of the file: the replay names the place of a vector that differs, and the
+// clauses say where each part lies.
 #[derive(Clone, Copy)]
 pub struct Part {
     pub from: usize,
