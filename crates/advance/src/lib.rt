@@ -102,6 +102,7 @@ fn plain(text: &[u8], c: CodePoint, from: Cursor, lists: &Lists) -> Scanned
 }
 
 // Past the whitespace after a first character, and the last character of it: the first one, if there is no more.
+// A struct of its own, as those of crate `cursor`: the second field says by its name what was found.
 #[derive(Clone, Copy)]
 struct Blanks {
     next: Cursor,

@@ -18,6 +18,7 @@ use refusal::{Bad, Numbers};
 use text::{CodePoint, Decoded};
 
 // The answer of a class call by number: 1 for yes, 0 for no, or the refusal.
+// Named as its rule, as the guide has it, and no `From`: neither type is this crate's.
 pub fn answer_numbers(answer: Result<bool, Bad>) -> Numbers
     ensures { result ≡ answer_numbers answer }
 {

@@ -137,6 +137,7 @@ pub fn run(writing: bool, start: State, text: &[u8], lists: &Lists, out: &mut [u
     let mut at = start.at;
     let mut i: usize = 0;
     let mut n: usize = 0;
+    // By position: `chars` of std is of a `str`, and two places go on, since CR LF is one byte of the replaced text.
     loop {
         match text::decode(text, i) {
             Decoded::Char(c, w) => {

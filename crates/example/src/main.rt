@@ -1,5 +1,6 @@
 // An example for those who call the crates from Rattle: the key of a text, with empty lists and with those of a file, the tokens of a text, and a refusal explained.
 // No call asks anything of its caller: what has to be proved here is only that a part of an array lies within it.
+// Each room is an array of a fixed size, and a number says how much of it is in use: there is no heap.
 #![tactic(auto)]
 
 use lists_file::Version;
@@ -100,6 +101,7 @@ fn say_key_with<W: Write>(to: &mut W, file: &[u8], text: &[u8]) -> io::Result<()
     )
 }
 
+// What each record holds before the call. By hand, since no kind of token is the one that a `Default` would take; that of `stored` differs from every token of a text.
 fn blank() -> Token {
     Token {
         kind: TokenKind::Eof,

@@ -92,6 +92,7 @@ pub fn number_of(field: &[u8], base: u32, most: u32) -> Option<u32>
 }
 
 // The byte of a digit. By hand, as the digits of a number below: std writes numbers into a `fmt::Write`, whose promise says nothing of the place in a lent buffer.
+// `as`, since a digit fits: `u8::try_from` would have an error that cannot come.
 fn digit_byte(d: u32) -> u8
     requires { d < 16 }
     ensures { result ≡ digit_byte d }
@@ -123,7 +124,7 @@ fn lay(room: &mut [u8], base: u32, n: u32) -> usize
     }
 }
 
-// Puts a number of at most ten digits.
+// Puts a number of at most ten digits. They come from the last to the first, and so into a room of that size first: there is no heap.
 fn put_numeral(out: &mut [u8], at: usize, base: u32, n: u32) -> usize
     requires base { Base base }
     requires few { length (numeral base n) ≤ 10 }

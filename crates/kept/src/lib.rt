@@ -33,6 +33,7 @@ pub fn begin() -> KeyState
 }
 
 // How many bytes wait.
+// By a `match`, here and below: each number of bytes is a case of `Kept` (crate `key_state`).
 pub fn kept_len(kept: Kept) -> usize
     ensures { result ≡ length (kept_bytes kept) }
 {
@@ -109,6 +110,7 @@ pub fn deepest(mode: Mode) -> u32
 }
 
 // Whether a state is such as the calls give: the machine has not read more than was handed in and does not wait, and is in no depth that it could not have reached.
+// `as`, since a usize has no `From` of a u32.
 #[tactic(auto, using(crate::proofs::Sounds::over_count, crate::proofs::Sounds::over_kept, crate::proofs::Sounds::over_read, crate::proofs::Sounds::by_depth))]
 pub fn sound(state: KeyState) -> bool
     ensures { result ≡ sound.sound state }

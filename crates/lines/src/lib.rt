@@ -7,6 +7,7 @@ ghost use Rattle.lines.specs.Filled.{Filled};
 use lexer::Source;
 
 // The position past the last token whose line was put, and the bytes that were put.
+// The buffer is the caller's, as there is no heap: so the number of its bytes is told.
 #[derive(Clone, Copy)]
 pub struct Chunk {
     pub next: usize,
@@ -15,6 +16,7 @@ pub struct Chunk {
 
 // Lines of the tokens from a position on, with frontmatter off, as many as are sure to fit into out. Eof has no length and no line: the loop ends
 // there.
+// Its loop is none of those over scans: it ends where a line might not fit, and a line here has no count of line feeds.
 pub fn fill(source: &Source, at: usize, out: &mut [u8]) -> Chunk
     requires { 33 ≤ length out.old }
     ensures { Filled source.now.lists source.now.text at out.old out.new result }

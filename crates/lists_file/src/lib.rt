@@ -16,6 +16,7 @@ pub struct Version {
 }
 
 // A record: its list, numbered as beside refusal 3 (0 id start, 1 id continue, 2 emoji), and a pair.
+// No enum: the number is what the C interface reports, and lines come in its order.
 #[derive(Clone, Copy)]
 pub struct Entry {
     pub which: usize,

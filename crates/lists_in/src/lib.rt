@@ -17,6 +17,7 @@ use ranges::MAX_PAIRS;
 use refusal::{Bad, Numbers};
 
 // What is loaded: the version, and how many numbers each run now holds.
+// The runs are the caller's, as there is no heap, and the C interface hands these numbers on.
 #[derive(Clone, Copy)]
 pub struct Held {
     pub version: Version,
@@ -42,7 +43,7 @@ impl From<Bad> for ReadRefusal {
     }
 }
 
-// The answer by number.
+// The answer by number. Named as its rule, as the guide has it, and no `From`: neither type is this crate's.
 pub fn read_numbers(answer: Result<Held, ReadRefusal>) -> Numbers
     ensures { result ≡ read_numbers answer }
 {
@@ -129,6 +130,7 @@ struct Found {
     tallies: Each<Tally>,
 }
 
+// Before the first record. No `Default`: that these are the tallies of no list is what is promised, and it would promise zeros, field by field.
 fn none_yet() -> Each<Tally>
     ensures { result ≡ tallies_of none }
 {
@@ -180,7 +182,7 @@ fn survey_file(file: &[u8]) -> Result<Found, usize>
     survey_records(file, version, first.len() + 1)
 }
 
-// Refusal 3 for a list: the count first, then the pairs.
+// Refusal 3 for a list, told by its number, as `Bad::List` holds it for the C interface: the count first, then the pairs.
 fn verdict_of(which: usize, t: Tally) -> Result<(), Bad>
     ensures { result ≡ verdict_of MAX_PAIRS which t }
 {

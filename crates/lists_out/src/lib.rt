@@ -31,7 +31,7 @@ impl From<Bad> for WriteRefusal {
     }
 }
 
-// The answer by number.
+// The answer by number. Named as its rule, as the guide has it, and no `From`: neither type is this crate's.
 pub fn write_numbers(answer: Result<usize, WriteRefusal>) -> Numbers
     ensures { result ≡ write_numbers answer }
 {
@@ -54,6 +54,7 @@ fn name_of(which: usize) -> &'static [u8]
 }
 
 // Puts the line of a record. Each local is the place of what is put next.
+// By `puts` and `fields`, here and below: of a `fmt::Write` nothing is promised of the place in a lent buffer.
 fn put_record(out: &mut [u8], at: usize, which: usize, low: u32, high: u32) -> usize
     requires { at + record_bytes which low high ≤ length out.old }
     ensures { Put (line (record_text which low high)) out.old at out.new result }
@@ -103,7 +104,7 @@ fn first_bytes(version: Version) -> usize
     put_first(&mut text, 0, version)
 }
 
-// The bytes of the lines of a list.
+// The bytes of the lines of a list. Pairs are taken by a pattern, here and in `put_group`: one of `chunks` would be a slice, whose two places are indexed.
 fn group_bytes(which: usize, list: &[u32]) -> usize
     requires { Short list.now }
     ensures { Counted (group_lines which list.now) (length list.now) result }

@@ -1,7 +1,7 @@
 // Numbers, after their first digit, each function proved equal to its rule in the book. Names are 000's where it has the function.
 // The text and a cursor into it stay two parameters: a cursor that held its text would be three words in every answer, and each promise would have to say besides that
 // the text is the same.
-// `base` and `decimal` stay two rules, as in the book: a number with a base may be empty, and one without begins with a digit that was read before.
+// `based` and `decimal` stay two rules, as in the book: a number with a base may be empty, and one without begins with a digit that was read before.
 #![tactic(auto)]
 
 ghost use Rattle.std.specs.Prelude.{◌≡◌, true};

@@ -69,6 +69,7 @@ fn say_lined<W: Write>(to: &mut W, source: &Source) -> io::Result<()>
 }
 
 // Writes the lines of a text that was checked, in one form or the other.
+// `lined`, here and below, is what a program's argument says, known only when it runs: each form has its function.
 fn say_checked<W: Write>(to: &mut W, source: &Source, lined: bool) -> io::Result<()>
     ensures { OnOk result (Appends (W.contents to.old) (W.contents to.new) (token_lines source.now.lists source.now.text lined)) }
 {

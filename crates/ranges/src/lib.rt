@@ -39,6 +39,7 @@ pub fn good_pair(previous: u32, low: u32, high: u32) -> bool
 }
 
 // The first pair from the left that breaks a rule, then a half pair: its index.
+// By index, which is the answer: a pair of `chunks_exact` is a slice, whose two places are indexed all the same.
 fn pairs_flaw(list: &[u32]) -> Option<usize>
     ensures { result ≡ flaw_from 0 0 list.now }
 {
@@ -70,6 +71,7 @@ fn list_flaw(list: &[u32]) -> Option<usize>
 }
 
 // The check of list number `which` (0 id start, 1 id continue, 2 emoji): refusal 3.
+// The number is the one that the C interface reports (`Bad::List`): an enum would be turned into it here.
 #[tactic(auto, unfolding(crate::specs::Rules::list_verdict))]
 pub fn check_list(which: usize, list: &[u32]) -> Result<(), Bad>
     ensures { result ≡ list_verdict MAX_PAIRS which list.now }

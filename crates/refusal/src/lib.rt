@@ -46,6 +46,7 @@ impl From<Bad> for PlaceRefusal {
 }
 
 // A refusal by number: its number in document 01's table (0: done), and the numbers beside it, 0 where there is none.
+// Numbers and no enum, here and below, as the C interface hands them out: the enums above hold what is refused.
 #[derive(Clone, Copy, PartialEq, Eq)]
 pub struct Numbers {
     pub number: u32,

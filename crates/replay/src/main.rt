@@ -165,6 +165,7 @@ fn section<W: Write>(to: &mut W, s: &[u8], t: Tally, out: &mut [u8]) -> Result<T
     steps(to, s, first, head.count, lists, out)
 }
 
+// Before the first vector. No `Default`: that this is a tally of no byte is what is promised, and it would promise zeros, field by field.
 fn nothing() -> Tally
     ensures { Tallied 0 result }
 {

@@ -53,6 +53,7 @@ pub fn put_token(slots: &mut [u32], n: usize, token: Token) -> usize
 }
 
 // Writes the numbers of every token of a text that was checked into a run that has room for them.
+// A loop of its own beside `list::fill`: in one for both, what is put and where the next one stands would be a closure, of which each promise would have to speak.
 fn fill(source: &Source, on: bool, slots: &mut [u32])
     requires { width * length (records source.now.lists on source.now.text) ≤ length slots.old }
     ensures { FilledSlots source.now.lists source.now.text on slots.old slots.new }

@@ -100,7 +100,7 @@ pub fn read(input: &[u8], out: &mut [u8]) -> Option<usize>
     )
 }
 
-// The call over a buffer, and then what it answers and what the buffer holds.
+// The call over a buffer, and then what it answers and what the buffer holds. With `keys::key_over` it shares `put_lent`: the call and its numbers are their own.
 fn write_over(version: Version, lists: Lent, buffer: &mut [u8], out: &mut [u8]) -> Option<usize>
     ensures { IfSome result (λ n. n ≤ length out.new) }
 {

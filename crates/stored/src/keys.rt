@@ -15,7 +15,7 @@ pub fn put_lent(out: &mut [u8], numbers: Numbers, held: &[u8]) -> Option<usize>
     Some(puts::put_bytes(out, n, held))
 }
 
-// The call over a buffer, and then what it answers and what the buffer holds.
+// The call over a buffer, and then what it answers and what the buffer holds. With `files::write_over` it shares `put_lent`: the call and its numbers are their own.
 fn key_over(text: &[u8], lists: Lent, buffer: &mut [u8], out: &mut [u8]) -> Option<usize>
     ensures { IfSome result (λ n. n ≤ length out.new) }
 {

@@ -3,6 +3,7 @@
 // Each function reads what is handed in, makes the call and puts its answer into out. It answers how many bytes that took, or nothing where what is handed
 // in is too short or out has no room. Promised is that it stays within out; that the bytes are the right ones is
 // judged by the stored answers, and by damaged ones, which must be seen to differ (tools/damaged-vectors).
+// A usize has no `From` of a u32, so that it is made by `as`; where `as` makes a number smaller, a remainder before it has made it fit.
 #![tactic(auto)]
 
 mod checks;
@@ -24,6 +25,7 @@ pub struct Lent<'a> {
 }
 
 // The answer of an operation, put into out: how many bytes it took; nothing where there is no such operation.
+// An operation is the number that stands in the file: an enum would be made of it and then matched, once each.
 pub fn answer(operation: u32, input: &[u8], lists: Lent, out: &mut [u8]) -> Option<usize>
     ensures { IfSome result (λ n. n ≤ length out.new) }
 {

@@ -48,6 +48,7 @@ pub fn one(input: &[u8], lists: Lent, out: &mut [u8]) -> Option<usize>
 }
 
 // Every token of a text by the call that checks everything. The last is Eof, the one token with no byte.
+// A loop of its own beside `put_steps`: each tries another call, and this one can be refused at every token.
 fn put_tokens(text: &[u8], lists: Lent, on: bool, out: &mut [u8]) -> Option<usize>
     ensures { IfSome result (λ n. n ≤ length out.new) }
 {

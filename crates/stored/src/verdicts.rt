@@ -15,6 +15,7 @@ fn as_byte(text: &[u8]) -> u8 {
 }
 
 // The verdict on a text of at most 8 bytes followed by b. 255 for a longer one: each of the 256 answers is one byte.
+// It stands in a room of nine bytes: there is no heap.
 fn followed_by(text: &[u8], b: u8) -> u8 {
     if 8 < text.len() {
         return 255;

@@ -1,5 +1,6 @@
 // The line that is printed for a token, put into a lent buffer: the name of its kind, a tab, its length in decimal, and, where it is asked for, a tab and the
 // line feeds before it; a newline.
+// By `puts` and `fields`: of a `fmt::Write` nothing is promised of the place in a lent buffer.
 #![tactic(auto)]
 
 ghost use Rattle.std.specs.Prelude.{◌+◌, ◌≤◌, length};

@@ -18,7 +18,7 @@ pub struct Part {
     pub to: usize,
 }
 
-// A vector: the operation, what is handed in and the answer.
+// A vector: the operation, by the number that the file has (crate `stored` knows them), what is handed in and the answer.
 #[derive(Clone, Copy)]
 pub struct Vector {
     pub operation: u32,
@@ -43,7 +43,7 @@ pub fn number_at(s: &[u8], at: usize) -> Option<u32>
     Some(n)
 }
 
-// The same; 0 where the bytes are not there.
+// The same; 0 where the bytes are not there, as operations 3 to 7 and 19 take what is not handed in.
 pub fn number(s: &[u8], at: usize) -> u32 {
     number_at(s, at).unwrap_or(0)
 }
@@ -61,6 +61,7 @@ fn after_number(s: &[u8], at: usize, n: usize) -> Option<Part>
 }
 
 // A number at a place, and as many bytes after it as it says.
+// Apart from `numbers_at`: in one function the bytes of an item would be an argument, for a body of two lines. `as`, since a usize has no `From` of a u32.
 fn bytes_at(s: &[u8], at: usize) -> Option<Part>
     ensures { IfSome result (Placed (length s.now) at) }
 {
@@ -120,6 +121,7 @@ pub fn put(out: &mut [u8], at: usize, ns: &[usize]) -> Option<usize>
 }
 
 // Puts the three numbers of an answer into out and answers how many bytes that took.
+// `as`, since a usize has no `From` of a u32.
 pub fn put_numbers(out: &mut [u8], n: Numbers) -> Option<usize>
     ensures { IfSome result (λ next. next ≤ length out.new) }
 {

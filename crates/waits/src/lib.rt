@@ -33,6 +33,7 @@ fn free(bytes: usize) -> Ready
 }
 
 // Up to an ill-formed sequence. One that is cut off by the end waits for its rest.
+// Named as its rule: a `From` of a pair would not say what the two are.
 fn stopped(at: usize, cause: Cause) -> Ready
     ensures { result ≡ stopped_at at cause }
 {
