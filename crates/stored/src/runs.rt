@@ -10,7 +10,7 @@ fn mixed() -> Numbers {
 }
 
 // The class call of an operation, of one number.
-// By the number that the file has, here and below: the calls take different lists, so that a closure for each would be no shorter than this `match`.
+// By the number that the files of vectors have, here and below: it is known only when a vector is read.
 fn class(operation: u32, c: u32, lists: Lent) -> Numbers {
     classes::answer_numbers(match operation {
         3 => Ok(classes::is_whitespace(c)),

@@ -15,7 +15,7 @@ fn wants_lines<R: Env>(rt: &R) -> bool {
     }
 }
 
-// As key_with but for the call: a function for both would hold the rooms and take the call as a closure of four slices.
+// As key_with but for the call: a function for both would hold the rooms and take the call as a closure of four slices, which is no shorter than these lines.
 // Each room has a fixed size, and a number says how much of it is in use: there is no heap.
 fn main(rt: HostRuntime) -> io::Result<()> {
     let mut starts = loading::list_room();
