@@ -39,7 +39,6 @@ pub record Matching (l s : List ℕ) (a b : Cursor) (i : ℕ) : Type 0 where
   pub few : i ≤ length l
 
 module _ {l s : List ℕ} {a b : Cursor} {i : ℕ} (m : Matching l s a b i) where
-
   module _ (o : i < length l) {r : Option (ℕ × Cursor)} (h : Seen s b r) where
     pub matching_over : r ≡ None → false ≡ begins l (rest s a)
     matching_over e = sym (begins_over l i o) ∙ ap (begins (drop i l)) (sym (end_at e h)) ∙ m.same

@@ -82,8 +82,7 @@ pub written_in : (limit : ℕ) (s : List ℕ) (L : Lists) (on : Bool) (old : Lis
     → c ≡ start_of on → new ≡ following L s n c ++ drop n old → Tokenized limit s L on old (Ok n) new
 written_in limit s L on old {a} {n} {c} {new} v e q b w =
     let total = length (records L on s) in
-    let m : n ≡ total = fits_same total n (length old) (sym q ∙ e) in
-    (
+    let m : n ≡ total = fits_same total n (length old) (sym q ∙ e) in (
       sym q ∙ e ∙ sym (ap (λ (u : Verdict). refused_or shared u (roomed total (length old))) v),
       w ∙ ap (λ (x : Scan). following L s n x ++ drop n old) b ∙ ap (λ (k : ℕ). following L s k (start_of on) ++ drop n old) m ∙ ap (λ (l : List Token). l ++ drop n old) (steps_records L s (fine_checked limit s L refl v).well on),
     )

@@ -22,4 +22,4 @@ pub returns : goal.returns
 returns c =
     let L : Lists = lent c.args.starts.now c.args.continues.now c.args.emoji.now in
     given_run MAX_PAIRS c.args.text.now L refl (source_fine MAX_PAIRS c.args.text.now L c.new.ensures c.in-Ok.is) c.args.at c.starts_here.ensures c.args.on c.if-not-starts_here.false
-        (rw (source_is MAX_PAIRS c.args.text.now L c.new.ensures c.in-Ok.is) at c.put_run.ensures)
+    (rw (source_is MAX_PAIRS c.args.text.now L c.new.ensures c.in-Ok.is) at c.put_run.ensures)

@@ -32,4 +32,4 @@ pub returns : goal.returns
 returns c =
     let L : Lists = lent c.args.starts.now c.args.continues.now c.args.emoji.now in
     checked_in MAX_PAIRS c.args.text.now L c.args.out.now refl (source_fine MAX_PAIRS c.args.text.now L c.new.ensures c.in_ok-source.was) c.double_return.ensures c.in_default.is c.hidden_mark.ensures c.in_default-hidden_mark.is
-        (rw (source_is MAX_PAIRS c.args.text.now L c.new.ensures c.in_ok-source.was) at c.checked_key.ensures)
+    (rw (source_is MAX_PAIRS c.args.text.now L c.new.ensures c.in_ok-source.was) at c.checked_key.ensures)

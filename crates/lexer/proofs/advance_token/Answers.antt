@@ -28,4 +28,4 @@ pub returns : goal.returns
 returns c =
     let L : Lists = lent c.args.starts.now c.args.continues.now c.args.emoji.now in
     given_in MAX_PAIRS c.args.text.now L refl (source_fine MAX_PAIRS c.args.text.now L c.new.ensures c.in_ok-source.was) c.args.at c.args.on c.starts_here.ensures c.if-not-starts_here.false c.before-2.ensures
-        (rw (source_is MAX_PAIRS c.args.text.now L c.new.ensures c.in_ok-source.was) at c.step.ensures.token)
+    (rw (source_is MAX_PAIRS c.args.text.now L c.new.ensures c.in_ok-source.was) at c.step.ensures.token)

@@ -12,6 +12,7 @@ returns-in_default c = search unprefixed_in
 pub returns : goal.returns
 returns c =
     elim c.match-first.branch [
-      in-98 w ↦ binary_in c.args.lists.now c.args.first c.if-first-ne48.false c.first.ensures w.in-98.is c.bump.ensures (rw w.base-is at c.based.ensures)
-    | in-111 w ↦ octal_in c.args.lists.now c.args.first c.if-first-ne48.false c.first.ensures w.in-111.is c.bump.ensures (rw w.base-is at c.based.ensures)
-    | in-120 w ↦ hexadecimal_in c.args.lists.now c.args.first c.if-first-ne48.false c.first.ensures w.in-120.is c.bump.ensures (rw w.base-is at c.based.ensures) ]
+      | in-98 w ↦ binary_in c.args.lists.now c.args.first c.if-first-ne48.false c.first.ensures w.in-98.is c.bump.ensures (rw w.base-is at c.based.ensures)
+      | in-111 w ↦ octal_in c.args.lists.now c.args.first c.if-first-ne48.false c.first.ensures w.in-111.is c.bump.ensures (rw w.base-is at c.based.ensures)
+      | in-120 w ↦ hexadecimal_in c.args.lists.now c.args.first c.if-first-ne48.false c.first.ensures w.in-120.is c.bump.ensures (rw w.base-is at c.based.ensures)
+    ]
