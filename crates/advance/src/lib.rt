@@ -160,7 +160,7 @@ fn fronted(text: &[u8], c: CodePoint, from: Cursor, lists: &Lists) -> Scanned
     plain(text, c, from, lists)
 }
 
-// The decision over the first character c of a token, frontmatter on or off.
+// The decision over the first character c of a token, frontmatter on or off: the flag is what 000 holds between two tokens, and has two rules.
 pub fn advance_token(text: &[u8], c: CodePoint, from: Cursor, on: bool, lists: &Lists) -> Scanned
     ensures { Begun (decided lists.now on c) text.now from result }
 {

@@ -63,7 +63,7 @@ pub fn is_digit(c: CodePoint) -> bool
     matches!(c, 0x30..=0x39)
 }
 
-// Whether c starts an identifier.
+// Whether c starts an identifier. This and the next two have a rule of the Rust Reference or of 000 each, which differ in ASCII.
 #[tactic(auto, unfolding(crate::specs::Identifiers::id_start))]
 pub fn id_start(c: CodePoint, starts: &[u32]) -> bool
     requires { Good starts.now }

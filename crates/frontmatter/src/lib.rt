@@ -139,7 +139,7 @@ fn recover(text: &[u8], from: Cursor) -> Cursor
     }
 }
 
-// The body and the closing fence, after an opening fence of `count` dashes.
+// The body and the closing fence, after an opening fence of `count` dashes. The same `match` as above, over another search and another way out.
 fn body(text: &[u8], from: Cursor, count: usize) -> Cursor
     ensures { Ran (Frontmatter.body count) text.now from result tt }
 {

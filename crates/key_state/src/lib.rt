@@ -15,7 +15,7 @@ pub enum Kept {
     Three(u8, u8, u8),
 }
 
-// THE STATE. `count` is the number of bytes handed in, 4,294,967,296 where they are more than the limit; `ill`, `double` and `mark` are the first ill-formed
+// THE STATE. `count` is the number of bytes handed in, 4,294,967,296 where they are more than the limit (a number, as C holds it: no byte more has to be told apart then); `ill`, `double` and `mark` are the first ill-formed
 // sequence, the first CR CR LF and the first hidden direction mark among the bytes that were read, as places of the whole text.
 #[derive(Clone, Copy)]
 pub struct KeyState {

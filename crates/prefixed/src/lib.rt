@@ -69,7 +69,7 @@ pub fn after_r(text: &[u8], from: Cursor, lists: &Lists) -> Scanned
     word(text, from, lists)
 }
 
-// What the letter k begins: a forced keyword or a word.
+// What the letter k begins: a forced keyword or a word. Its first half reads as that of `after_r` but for the kind: each is a rule of the book by itself.
 pub fn after_k(text: &[u8], from: Cursor, lists: &Lists) -> Scanned
     ensures { Begun (after_k lists.now) text.now from result }
 {

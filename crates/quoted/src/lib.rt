@@ -77,7 +77,7 @@ pub fn single_quoted_string(text: &[u8], from: Cursor) -> Ended
     single_rest(text, from)
 }
 
-// The hashes at a cursor, `most` at the most.
+// The hashes at a cursor, `most` at the most. `eat_repeated` has no most: with one, each of its callers would hand in a number that cannot be reached.
 pub fn eat_hashes_most(text: &[u8], from: Cursor, most: usize) -> Repeated
     ensures { CountedMost most text.now from result }
 {

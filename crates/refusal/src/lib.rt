@@ -30,7 +30,8 @@ pub enum Bad {
     NotUtf8(usize, Cause),
 }
 
-// The refusals of a call at a position of a text: it is past the end or inside a character (4), or one that calls share.
+// The refusals of a call at a position of a text: it is past the end or inside a character (4), or one that calls share. Each call with refusals of its own
+// has such an enum: one type over those, `Own(..)` or `Shared(..)`, would stand around each name that the guide gives a refusal.
 #[derive(Clone, Copy)]
 pub enum PlaceRefusal {
     Position(usize),

@@ -46,7 +46,7 @@ fn stopped(at: usize, cause: Cause) -> Ready
     }
 }
 
-// Up to what refuses some bytes; that is an ill-formed sequence and nothing else.
+// Up to what refuses some bytes; that is an ill-formed sequence and nothing else. No `From`: what the other refusals leave is the rule of this call.
 fn up_to(bad: Bad) -> Ready
     ensures { result ≡ up_to bad }
 {
