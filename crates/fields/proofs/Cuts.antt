@@ -165,10 +165,9 @@ parted_whole mark (c ∷ s) = by_test (eqb c mark) refl (parted_whole mark s)
     by_test false e ih = onto_whole mark c (parted mark s).ended (parted mark s).rest ∙ ap (λ (l : List ℕ). c ∷ l) ih
 
 -- THE CUT at the place of the first mark
-pub cut_into : (mark : ℕ) (s : List ℕ) {n : ℕ} → n ≡ 0 + length (piece mark s) → n < length s → CutInto mark s (take n s) (take (length s - (n + 1)) (drop (n + 1) s))
-cut_into mark s {n} e h =
+pub cut_into : (mark : ℕ) (s : List ℕ) {n : ℕ} → n ≡ length (piece mark s) → n < length s → CutInto mark s (take n s) (take (length s - (n + 1)) (drop (n + 1) s))
+cut_into mark s {n} l h =
     let c : Cut mark s = cut_at mark s (omega arith) in
-    let l : n ≡ length (piece mark s) = omega arith in
     record {
       marked = c.marked;
       before_it = rw l (piece_take mark s);

@@ -12,6 +12,7 @@ ghost use Rattle.fields.specs.Numerals;
 ghost use Rattle.fields.specs.Puts.{Fits};
 
 // The place of the first mark from a place on; the end of the text where there is none, so that a last piece with no mark after it ends there too: no Option.
+// `cut` asks for a mark, and so searches for itself.
 pub fn find(s: &[u8], from: usize, mark: u8) -> usize
     requires { from ≤ length s.now }
     ensures { result ≡ from + length (piece mark (drop from s.now)) }
@@ -26,10 +27,7 @@ pub fn find(s: &[u8], from: usize, mark: u8) -> usize
 pub fn cut(s: &[u8], mark: u8) -> Option<(&[u8], &[u8])>
     ensures { MatchOption result (is_in s.now mark ≡ false) (λ x. CutInto mark s.now x.0.now x.1.now) }
 {
-    let end = find(s, 0, mark);
-    if s.len() <= end {
-        return None;
-    }
+    let end = s.iter().position(|&c| c == mark)?;
     Some((&s[..end], &s[end + 1..]))
 }
 
