@@ -67,13 +67,13 @@ fn put_record(out: &mut [u8], at: usize, which: usize, low: u32, high: u32) -> u
     puts::put_byte(out, end, b'\n')
 }
 
-// Puts a tab and a number in decimal. `as`, which loses nothing here: with `u32::from` the clause would speak of another number than the one that is put.
+// Puts a tab and a number in decimal.
 fn put_number(out: &mut [u8], at: usize, n: u16) -> usize
     requires { at + length (numeral 10 n) + 1 ≤ length out.old }
     ensures { Put (tab ∷ numeral 10 n) out.old at out.new result }
 {
     let digits = puts::put_byte(out, at, b'\t');
-    fields::put_decimal(out, digits, n as u32)
+    fields::put_decimal(out, digits, u32::from(n))
 }
 
 // Puts the first line. Each local is the place of what is put next.
