@@ -47,10 +47,7 @@ pub fn tokenize(
 pub fn get(records: &[Token], i: usize, none: Token) -> Token
     ensures { result ≡ get_or records.now i none }
 {
-    if records.len() <= i {
-        return none;
-    }
-    records[i]
+    records.get(i).copied().unwrap_or(none)
 }
 
 // The answer, and 64 records by value: no `Vec`, since no call has a heap.
