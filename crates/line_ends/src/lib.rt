@@ -20,28 +20,15 @@ pub fn is_cr_lf(text: &[u8], c: CodePoint, next: usize) -> bool
         }
 }
 
-// Whether CR CR LF stands at a place.
-#[tactic(auto, using(crate::proofs::Places::double_all, crate::proofs::Places::double_second, crate::proofs::Places::double_first))]
-fn double_at(text: &[u8], at: usize) -> bool
-    requires { at + 2 < length text.now }
-    ensures { result ≡ double_at (drop at text.now) }
-{
-    text[at] == 0x0D && text[at + 1] == 0x0D && text[at + 2] == 0x0A
-}
-
 // Where the first CR CR LF of a text begins.
-#[tactic(auto, using(places::proofs::Searches::none_before, crate::proofs::Places::double_on, crate::proofs::Places::double_few, crate::proofs::Places::double_found, crate::proofs::Places::double_none))]
+#[tactic(auto, using(crate::proofs::Places::double_is))]
 pub fn double_return(text: &[u8]) -> Option<usize>
     ensures { result ≡ found_at (double_return text.now) }
 {
-    if text.len() < 3 {
-        return None;
-    }
-    let last = text.len() - 2;
-    for i in 0..last {
-        if double_at(text, i) {
-            return Some(i);
-        }
-    }
-    None
+    (0..text.len()).find(
+        |&i|
+            requires { i < length text.now }
+            ensures { result ≡ double_at (drop i text.entry.now) }
+        { text[i..].starts_with(b"\r\r\n") },
+    )
 }
