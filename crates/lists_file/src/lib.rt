@@ -53,12 +53,11 @@ pub fn record_of(line: &[u8]) -> Option<Entry>
     })
 }
 
-// A number of a version. `as`, since it is at most 65535: `u16::try_from` would have a case that never comes.
+// A number of a version.
 fn decimal(field: &[u8]) -> Option<u16>
     ensures { result ≡ decimal field.now }
 {
-    let number = fields::number_of(field, 10, 65535)?;
-    Some(number as u16)
+    u16::try_from(fields::number_of(field, 10, 65535)?).ok()
 }
 
 // What the first line says: up to a tab the word `unicode`, and then three numbers. None where it is bad.
