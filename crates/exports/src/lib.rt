@@ -7,7 +7,8 @@
 // in a struct, the parameters as C has them, and a function named as its rule in specs/ for each answer, where a `From` would stand for a rule that has a name.
 #![tactic(auto)]
 
-ghost use Rattle.std.specs.Prelude.{◌≡◌, true};
+ghost use Rattle.std.specs.Prelude.{◌≡◌, true, Some, None};
+ghost use Rattle.basics.specs.Choice.{pick};
 ghost use Rattle.text.specs.Position.{on_boundary};
 ghost use Rattle.classes.specs.Whitespace.{is_whitespace, is_horizontal_whitespace};
 ghost use Rattle.classes.specs.Answers.{answer_numbers, id_start_answer, id_continue_answer, emoji_answer, ident_answer};
@@ -15,7 +16,6 @@ ghost use Rattle.refusal.specs.Numbers.{verdict_numbers};
 ghost use Rattle.token.specs.Lists.{lent};
 ghost use Rattle.lexer.specs.Answers.{token_verdict, one_token};
 ghost use Rattle.lists_file.specs.Lines.{version};
-ghost use Rattle.lists_file.specs.File.{VersionFits};
 ghost use Rattle.strings.specs.RawChecks.{raw_answer};
 ghost use Rattle.strings.specs.Guards.{guarded_answer};
 ghost use Rattle.exports.specs.Answers.{answer_of};
@@ -386,9 +386,9 @@ fn read_out(answer: Result<Held, ReadRefusal>) -> ListsAnswer
     }
 }
 
-// Whether the numbers of a version are such as a file can have.
-fn is_version(major: u32, minor: u32, update: u32) -> bool
-    ensures { result ≡ is_version major minor update }
+// The version of three numbers; None where one of them is such as no file can have.
+fn version_of(major: u32, minor: u32, update: u32) -> Option<Version>
+    ensures { result ≡ pick (is_version major minor update) (Some (version major minor update)) None }
 {
     major <= 65535 && minor <= 65535 && update <= 65535
 }
@@ -403,6 +403,14 @@ fn version_of(major: u32, minor: u32, update: u32) -> Version
         minor: minor as u16,
         update: update as u16,
     }
+    let major = u16::try_from(major).ok()?;
+    let minor = u16::try_from(minor).ok()?;
+    let update = u16::try_from(update).ok()?;
+    Some(Version {
+        major,
+        minor,
+        update,
+    })
 }
 
 // What the token calls check of a text and three lists: 1, 3, 2, or 0.
@@ -467,8 +475,9 @@ pub extern "C" fn lovemudarn_tokens_from(
         Ok(source) => source,
         Err(bad) => return no_run(refusal::bad_numbers(bad)),
     };
+    // the check of a place comes after the call's own others (document 01), so that calls share `starts_here` and not the refusal
     if !text::starts_here(text, at) {
-        return no_run(refusal::refused(4, at));
+        return no_run(refusal::place_numbers(PlaceRefusal::Position(at)));
     }
     put_run(&source, at, on, slots)
 }
@@ -517,12 +526,11 @@ pub extern "C" fn lovemudarn_write_lists(
 ) -> Answer
     ensures { FileOut MAX_PAIRS major minor update (lent starts.now continues.now emoji.now) out.old out.new result }
 {
-    if is_version(major, minor, update) {
-        let version = version_of(major, minor, update);
-        let answer = lists_out::write_lists(version, starts, continues, emoji, out);
-        return answer_of(lists_out::write_numbers(answer));
-    }
-    answer_of(refusal::refused(9, 0))
+    let Some(version) = version_of(major, minor, update) else {
+        return answer_of(refusal::refused(9, 0));
+    };
+    let answer = lists_out::write_lists(version, starts, continues, emoji, out);
+    answer_of(lists_out::write_numbers(answer))
 }
 
 // Whether a text is an identifier: 1, 3, 2, or 0 with 1 for yes and 0 for no.
