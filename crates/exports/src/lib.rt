@@ -390,19 +390,6 @@ fn read_out(answer: Result<Held, ReadRefusal>) -> ListsAnswer
 fn version_of(major: u32, minor: u32, update: u32) -> Option<Version>
     ensures { result ≡ pick (is_version major minor update) (Some (version major minor update)) None }
 {
-    major <= 65535 && minor <= 65535 && update <= 65535
-}
-
-// Once `is_version` has let the numbers through: `u16::try_from` would have errors that cannot come, three of them.
-fn version_of(major: u32, minor: u32, update: u32) -> Version
-    requires { VersionFits (version major minor update) }
-    ensures { result ≡ version major minor update }
-{
-    Version {
-        major: major as u16,
-        minor: minor as u16,
-        update: update as u16,
-    }
     let major = u16::try_from(major).ok()?;
     let minor = u16::try_from(minor).ok()?;
     let update = u16::try_from(update).ok()?;
