@@ -1,16 +1,17 @@
 -- Laws of a list read pair by pair.
 use Rattle.std.specs.Prelude.{Option, None, Some, Err}
-use Prim.Native.Nat.{ℕ, suc, ◌+◌, ◌*◌, ◌/◌, ◌%◌, ◌≤◌, ◌<◌}
+use Prim.Native.Nat.{ℕ, suc, ◌+◌, ◌-◌, ◌*◌, ◌/◌, ◌≤◌, ◌<◌}
 use mathlib.Core.Path.{◌≡◌, refl, sym, ap, ◌∙◌}
 use mathlib.Core.Bool.{Bool, true, false, not}
 use mathlib.Core.List.{List, [], ◌∷◌}
-use lib.ListN.{length, get_or, drop, length-drop}
+use lib.ListN.{length, take, get_or, drop}
 use lib.Seq.{drop-cons}
 use borrow.Author.Tests.{not-true, not-false, ltb-true, leb-true, lt-ltb, le-ltb, le-leb}
 use lib.Dec.{ltb, leb}
 use native.Mathlib.Nat.{le_refl}
 use native.Mathlib.Numerals.{add-one}
 use native.Mathlib.Omega.{arith}
+use Rattle.std.proofs.lemmas.List.{take_rest}
 use Rattle.basics.specs.Choice.{pick}
 use Rattle.basics.proofs.Choices.{and_1, and_2}
 use Rattle.ranges.specs.Rules.{meets, clear, good_pair, flaw_from, flaw, list_verdict}
@@ -124,42 +125,44 @@ unfolding flaw_from
 flaw_end k p [] h = refl
 flaw_end k p (a ∷ l) h = absurd (omega arith)
 
--- THE CHECK: what the pairs from pair k on say, after a pair that ends at p, is what the whole list says
-pub record Checked (l : List ℕ) (p k : ℕ) : Type 0 where
-  pub same : flaw_from k p (drop (k * 2) l) ≡ flaw_from 0 0 l
-  pub room : k ≤ length l / 2
+-- THE CHECK: what the pairs of `rest` say, the first of them pair k, after a pair that ends at p, is what the whole list says
+pub record Checked (l : List ℕ) (p k : ℕ) (rest : List ℕ) : Type 0 where
+  pub same : flaw_from k p rest ≡ flaw_from 0 0 l
+  pub room : k * 2 + length rest ≡ length l
 
-pub check_start : (l : List ℕ) → Checked l 0 0
+pub check_start : (l : List ℕ) → Checked l 0 0 l
 check_start l = record { same = refl; room = omega arith }
 
+-- where what is left is the list from pair k on
+pub checked_at : {l : List ℕ} {p k : ℕ} → Checked l p k (drop (k * 2) l) → k < length l / 2
+    → Checked l p k (get_or l (k * 2) 0 ∷ get_or l (k * 2 + 1) 0 ∷ drop ((k + 1) * 2) l)
+checked_at {l} {p} {k} w h = rw (pair_at l k h) at w
+
+-- and where it is taken apart by a pattern
+pub opened : {l : List ℕ} {p k : ℕ} (rest : List ℕ) → Checked l p k rest → 2 ≤ length rest
+    → Checked l p k (get_or rest 0 0 ∷ get_or rest 1 0 ∷ take (length rest - 2) (drop 2 rest))
+opened [] w h = absurd (omega arith)
+opened (low ∷ []) w h = absurd (omega arith)
+opened (low ∷ high ∷ more) w h = rw (take_rest (low ∷ high ∷ more) 2) w
+
 -- pair k breaks a rule, or none: one turn
-module _ {l : List ℕ} {p k : ℕ} {r : Bool} (w : Checked l p k) (h : k < length l / 2)
-    (e : r ≡ good_pair p (get_or l (k * 2) 0) (get_or l (k * 2 + 1) 0)) where
-  turn : pick r (flaw_from (suc k) (get_or l (k * 2 + 1) 0) (drop ((k + 1) * 2) l)) (Some k) ≡ flaw_from 0 0 l
-  turn = rw e (sym (ap (flaw_from k p) (pair_at l k h) ∙ flaw_pair k p _ _ _) ∙ w.same)
+module _ {l : List ℕ} {p k low high : ℕ} {more : List ℕ} {r : Bool} (w : Checked l p k (low ∷ high ∷ more)) (e : r ≡ good_pair p low high) where
+  turn : pick r (flaw_from (suc k) high more) (Some k) ≡ flaw_from 0 0 l
+  turn = rw e (sym (flaw_pair k p low high more) ∙ w.same)
 
   pub check_stop : not r ≡ true → Some k ≡ flaw_from 0 0 l
   check_stop t = rw (not-true r t) at turn
 
-  pub check_on : not r ≡ false → Checked l (get_or l (k * 2 + 1) 0) (k + 1)
-  check_on t =
-      record {
-        same = ap (λ (n : ℕ). flaw_from n (get_or l (k * 2 + 1) 0) (drop ((k + 1) * 2) l)) (add-one k) ∙ rw (not-false r t) at turn;
-        room = omega arith;
-      }
+  pub check_on : not r ≡ false → Checked l high (k + 1) more
+  check_on t = record { same = ap (λ (n : ℕ). flaw_from n high more) (add-one k) ∙ rw (not-false r t) at turn; room = omega (arith, w.room) }
 
 -- past the last whole pair
-module _ {l : List ℕ} {p k : ℕ} (w : Checked l p k) (h : length l / 2 ≤ k) where
-  last : k ≡ length l / 2
-  last = omega (arith, w.room)
+module _ {l : List ℕ} {p k : ℕ} {rest : List ℕ} (w : Checked l p k rest) where
+  pub check_half : length rest ≡ 1 → Some k ≡ flaw_from 0 0 l
+  check_half o = sym (flaw_half k p rest o) ∙ w.same
 
-  pub check_half : length l % 2 ≡ 1 → Some (length l / 2) ≡ flaw_from 0 0 l
-  check_half o =
-      ap Some (sym last) ∙ sym (flaw_half k p (drop (k * 2) l) (length-drop (k * 2) l ∙ omega (arith, last))) ∙ w.same
-
-  pub check_end : (length l % 2 ≡ 1 → ⊥) → None ≡ flaw_from 0 0 l
-  check_end o =
-      sym (flaw_end k p (drop (k * 2) l) (length-drop (k * 2) l ∙ omega (arith, last))) ∙ w.same
+  pub check_end : length rest ≡ 0 → None ≡ flaw_from 0 0 l
+  check_end o = sym (flaw_end k p rest o) ∙ w.same
 
 -- the count first
 pub count_over : (limit : ℕ) (l : List ℕ) → limit < length l / 2 → Some limit ≡ flaw limit l

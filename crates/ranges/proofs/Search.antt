@@ -13,7 +13,7 @@ use Rattle.basics.specs.Tests.{within}
 use Rattle.basics.proofs.Choices.{below_or_not, yes_or_no, inside_within, under_within, over_within}
 use Rattle.ranges.specs.Rules.{good_pair, Good}
 use Rattle.ranges.specs.Search.{in_pairs}
-use Rattle.ranges.proofs.Pairs.{Fits, pair_true, pair_at, Checked, check_start, check_stop, check_on}
+use Rattle.ranges.proofs.Pairs.{Fits, pair_true, pair_at, Checked, check_start, checked_at, check_stop, check_on}
 
 -- the two ends of pair k
 abbrev low : List ℕ → ℕ → ℕ
@@ -30,23 +30,23 @@ previous l (suc k) = high l k
 -- THE ORDER of a good list
 module _ {l : List ℕ} (g : Good l) where
   -- a pair to which the check comes is let through
-  obeys : {p k : ℕ} → Checked l p k → k < length l / 2 → good_pair p (low l k) (high l k) ≡ true
+  obeys : {p k : ℕ} → Checked l p k (drop (k * 2) l) → k < length l / 2 → good_pair p (low l k) (high l k) ≡ true
   obeys {p} {k} w h =
       ⊎_elim
       (λ (e : _). e)
       (λ (e : good_pair p (low l k) (high l k) ≡ false).
-      let s = check_stop w h refl (rw e) in
+      let s = check_stop (checked_at w h) refl (rw e) in
       let z : ◌≡◌ {A = ℕ} 0 1 = cc g.pairs in
       absurd (omega arith))
       (yes_or_no (good_pair p (low l k) (high l k)))
 
   -- so the check comes to every pair
-  reached : (k : ℕ) → k ≤ length l / 2 → Checked l (previous l k) k
+  reached : (k : ℕ) → k ≤ length l / 2 → Checked l (previous l k) k (drop (k * 2) l)
   unfolding previous
   reached zero h = check_start l
   reached (suc k) h =
       let w = reached k (omega arith) in
-      rw (add-one k) at (check_on w (omega arith) refl (rw (obeys w (omega arith))))
+      rw (add-one k) at (check_on (checked_at w (omega arith)) refl (rw (obeys w (omega arith))))
 
   -- and every pair obeys the rules
   fits : (k : ℕ) → k < length l / 2 → Fits (previous l k) (low l k) (high l k)

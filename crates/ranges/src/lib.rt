@@ -39,24 +39,24 @@ pub fn good_pair(previous: u32, low: u32, high: u32) -> bool
 }
 
 // The first pair from the left that breaks a rule, then a half pair: its index.
-// By index, which is the answer: a pair of `chunks_exact` is a slice, whose two places are indexed all the same.
 fn pairs_flaw(list: &[u32]) -> Option<usize>
     ensures { result ≡ flaw_from 0 0 list.now }
 {
-    let whole = list.len() / 2;
     let mut previous = 0;
-    for k in 0..whole {
-        let low = list[k * 2];
-        let high = list[k * 2 + 1];
-        if !good_pair(previous, low, high) {
+    let mut k = 0;
+    let mut rest = list;
+    while let [low, high, more @ ..] = rest {
+        if !good_pair(previous, *low, *high) {
             return Some(k);
         }
-        previous = high;
+        previous = *high;
+        k += 1;
+        rest = more;
     }
-    if list.len() % 2 == 1 {
-        return Some(whole);
+    if rest.is_empty() {
+        return None;
     }
-    None
+    Some(k)
 }
 
 // The count first, then the pairs.
