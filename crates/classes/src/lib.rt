@@ -157,6 +157,7 @@ pub fn ident_verdict(text: &[u8], starts: &[u32], continues: &[u32]) -> Result<(
     ensures { result ≡ ident_verdict MAX_PAIRS text.now starts.now continues.now }
 {
     let long = text::check_length(text);
+    // list by list, each with its number: calls share `check_list` and `lists_in_order`, and the place among the other checks is each call's own (document 01)
     let first = ranges::check_list(0, starts);
     let second = ranges::check_list(1, continues);
     let both = refusal::lists_in_order(first, second, Ok(()));

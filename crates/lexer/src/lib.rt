@@ -235,6 +235,7 @@ pub fn token_verdict(
     ensures { result ≡ token_verdict MAX_PAIRS text.now (lent starts.now continues.now emoji.now) }
 {
     let long = text::check_length(text);
+    // list by list, each with its number: calls share `check_list` and `lists_in_order`, and the place among the other checks is each call's own (document 01)
     let first = ranges::check_list(0, starts);
     let second = ranges::check_list(1, continues);
     let third = ranges::check_list(2, emoji);
@@ -255,6 +256,7 @@ pub fn advance_token(
     ensures { result ≡ one_token MAX_PAIRS text.now (lent starts.now continues.now emoji.now) at on }
 {
     let source = Source::new(text, starts, continues, emoji)?;
+    // the check of a place comes after the call's own others (document 01), so that calls share `starts_here` and not the refusal
     if !text::starts_here(text, at) {
         return Err(PlaceRefusal::Position(at));
     }

@@ -15,7 +15,7 @@ pub struct Chunk {
 }
 
 // Lines of the tokens from a position on, with frontmatter off, as many as are sure to fit into out. Eof has no length and no line: the loop ends
-// there.
+// there, as 000's iterator does. No other token is without a byte, so that its length tells it as its kind does.
 // Its loop is none of those over scans: it ends where a line might not fit, and a line here has no count of line feeds.
 pub fn fill(source: &Source, at: usize, out: &mut [u8]) -> Chunk
     requires { 33 ≤ length out.old }

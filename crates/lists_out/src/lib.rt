@@ -171,6 +171,7 @@ pub fn write_lists(
 ) -> Result<usize, WriteRefusal>
     ensures { Writing MAX_PAIRS version (lent starts.now continues.now emoji.now) out.old out.new result }
 {
+    // list by list, each with its number: calls share `check_list` and `lists_in_order`, and the place among the other checks is each call's own (document 01)
     let start = ranges::check_list(0, starts);
     let goes_on = ranges::check_list(1, continues);
     let last = ranges::check_list(2, emoji);

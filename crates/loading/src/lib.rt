@@ -55,7 +55,8 @@ fn load_bytes<W: Write>(
     }
 }
 
-// The file that the first argument names. There is none where no argument is, or one that is no path of a file that can be opened.
+// The file that the first argument names; its path fills a part of a room, as there is no heap.
+// There is none where no argument is, or one that is no path of a file that can be opened.
 fn named<R: Env + Files>(rt: &R) -> Option<R::File> {
     let mut path: [u8; 4096] = input::filled(0);
     let n = rt.arg(1, &mut path).ok()?;
@@ -77,6 +78,7 @@ pub fn load<R: Env + Files, W: Write>(
     ensures told { IfOk result (λ r. IsNone r → Told (W.contents to.old) (W.contents to.new)) }
     ensures kept { (length starts.new ≡ length starts.old) × ((length continues.new ≡ length continues.old) × (length emoji.new ≡ length emoji.old)) }
 {
+    // `done(0, 0)` here and below, three zeros: the line is of numbers, and 0, which no refusal has, stands for a file that cannot be read
     let Some(mut opened) = named(rt) else {
         return refused(to, refusal::done(0, 0));
     };

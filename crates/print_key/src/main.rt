@@ -5,6 +5,7 @@
 
 use std::io;
 
+// The input fills a part of a room of a fixed size: there is no heap.
 // As print_tokens but for the call: a function for both would hold the room and take the call as a closure, which is no shorter than these lines.
 fn main(rt: HostRuntime) -> io::Result<()> {
     let empty = [0u32; 0];

@@ -20,7 +20,8 @@ use std::io::Write;
 // The room for the input, and for one byte more, which shows that input is longer.
 pub const INPUT_ROOM: usize = 65537;
 
-// Writes the lines of a text that was checked part by part, each as long as the room. A part that stands still is the end.
+// Writes the lines of a text that was checked part by part, each as long as the room. A part that stands still is the end: every token but
+// Eof has a byte, and the room takes a line at least. So no `Option` need say it.
 fn say_lines<W: Write>(to: &mut W, source: &Source) -> io::Result<()>
     ensures { OnOk result (Appends (W.contents to.old) (W.contents to.new) (lines_from source.now.lists source.now.text 0)) }
 {
@@ -37,7 +38,8 @@ fn say_lines<W: Write>(to: &mut W, source: &Source) -> io::Result<()>
     }
 }
 
-// Writes what is in the room, and begins it anew, where one more line might not fit. What is answered is how much is then in it.
+// Writes what is in the room, which is a part of a fixed array, as there is no heap, and begins it anew, where one more line might not
+// fit. What is answered is how much is then in it.
 fn emptied<W: Write>(to: &mut W, out: &[u8], used: usize) -> io::Result<usize>
     requires { (used ≤ length out.now) × (44 ≤ length out.now) }
     ensures room { IfOk result (λ n. n + 44 ≤ length out.now) }

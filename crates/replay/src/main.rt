@@ -141,7 +141,8 @@ fn head_at(s: &[u8], at: usize) -> Option<Head>
     })
 }
 
-// The vectors of a section, with its lists. There is room for as many numbers as a whole file has, so that no list in a file has more.
+// The vectors of a section, with its lists. Their rooms have fixed sizes, and `load` says how much of each is in use: there is no heap.
+// There is room for as many numbers as a whole file has, so that no list in a file has more.
 fn section<W: Write>(to: &mut W, s: &[u8], t: Tally, out: &mut [u8]) -> Result<Tally, Stop>
     requires { Tallied (length s.now) t }
     ensures counted { IfOk result (Tallied (length s.now)) }
@@ -213,7 +214,8 @@ fn opened<R: Files + Eprint>(rt: &R, path: &[u8]) -> io::Result<Option<R::File>>
     }
 }
 
-// The vectors of one file. One that cannot be opened, and one that is too long, counts as out of form from its beginning.
+// The vectors of one file, which fills a part of a room of a fixed size: there is no heap.
+// One that cannot be opened, and one that is too long, counts as out of form from its beginning.
 fn file<R: Files + Eprint, W: Write>(rt: &R, to: &mut W, path: &[u8]) -> Result<Tally, Stop> {
     let Some(mut opened) = opened(rt, path)? else {
         return Err(Stop::OutOfForm(nothing()));
@@ -243,7 +245,8 @@ fn said<R: Files + Eprint, W: Write>(rt: &R, to: &mut W, path: &[u8]) -> io::Res
     }
 }
 
-// The file that argument i names, or nothing past the last argument. An argument that is too long for a path is read as an empty one, which no file has.
+// The file that argument i names, whose path fills a part of a room, or nothing past the last argument.
+// An argument that is too long for a path is read as an empty one, which no file has.
 fn argument<R: Env + Files + Eprint, W: Write>(
     rt: &R,
     to: &mut W,

@@ -23,7 +23,7 @@ fn key_over(text: &[u8], lists: Lent, buffer: &mut [u8], out: &mut [u8]) -> Opti
     put_lent(out, key::key_numbers(answer), buffer)
 }
 
-// Operation 17: the key call over n bytes, each of which held the same one before.
+// Operation 17: the key call over n bytes, each of which held the same one before: the beginning of a room of a fixed size, as there is no heap.
 pub fn key_of(input: &[u8], lists: Lent, out: &mut [u8]) -> Option<usize>
     ensures { IfSome result (λ n. n ≤ length out.new) }
 {

@@ -16,7 +16,8 @@ mod verdicts;
 
 ghost use Rattle.std.specs.Prelude.{◌≤◌, length, IfSome};
 
-// The three lists that a section of a file lends. Nothing is known of them: the calls check them.
+// The three lists that a section of a file lends. They and out, and the input and out, are handed on as two: each operation takes from the one and writes into
+// the other, and a struct of both would be taken apart at once. Nothing is known of them: the calls check them.
 #[derive(Clone, Copy)]
 pub struct Lent<'a> {
     pub starts: &'a [u32],

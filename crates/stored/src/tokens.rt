@@ -48,6 +48,7 @@ pub fn one(input: &[u8], lists: Lent, out: &mut [u8]) -> Option<usize>
 }
 
 // Every token of a text by the call that checks everything. The last is Eof, the one token with no byte.
+// So a length of 0 is the end, and that token is put too.
 // A loop of its own beside `put_steps`: each tries another call, and this one can be refused at every token.
 fn put_tokens(text: &[u8], lists: Lent, on: bool, out: &mut [u8]) -> Option<usize>
     ensures { IfSome result (λ n. n ≤ length out.new) }
@@ -82,7 +83,7 @@ pub fn every(input: &[u8], lists: Lent, out: &mut [u8]) -> Option<usize>
     put_tokens(text, lists, on == 1, out)
 }
 
-// Every token of a text that was checked, from scan to scan.
+// Every token of a text that was checked, from scan to scan. Eof is put too, and its length of 0 is the end: no other token is without a byte.
 fn put_steps(source: &Source, on: bool, out: &mut [u8]) -> Option<usize>
     ensures { IfSome result (λ n. n ≤ length out.new) }
 {

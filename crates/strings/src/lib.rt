@@ -227,6 +227,7 @@ pub fn guarded_double_quoted_string(
     ensures { result ≡ guarded_answer MAX_PAIRS text.now starts.now continues.now at }
 {
     classes::ident_verdict(text, starts, continues)?;
+    // the check of a place comes after the call's own others (document 01), so that calls share `starts_here` and not the refusal
     if !text::starts_here(text, at) {
         return Err(PlaceRefusal::Position(at));
     }

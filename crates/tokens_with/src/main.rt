@@ -6,7 +6,7 @@
 use std::env::Env;
 use std::io;
 
-// Whether the second argument is the word `lines`.
+// Whether the second argument is the word `lines`. It fills a part of a room of a fixed size: there is no heap.
 fn wants_lines<R: Env>(rt: &R) -> bool {
     let mut word: [u8; 4096] = input::filled(0);
     match rt.arg(2, &mut word) {

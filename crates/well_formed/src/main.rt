@@ -22,7 +22,7 @@ fn say<W: Write>(to: &mut W, verdict: Result<(), Bad>, bytes: usize) -> io::Resu
 }
 
 fn main(rt: HostRuntime) -> io::Result<()> {
-    // a byte more than is read shows that input is longer
+    // a byte more than is read shows that input is longer; the room has a fixed size, and a number says how much of it is in use: there is no heap
     let mut buf: [u8; 262145] = input::filled(0);
     let n = input::read_full(&mut rt.stdin(), &mut buf)?;
     let mut to = rt.stdout();
