@@ -136,7 +136,8 @@ pub fn in_order(
     long.and(lists).and(utf8)
 }
 
-// Refusal 3 for the three lists, in their order.
+// Refusal 3 for the three lists, in their order. The body of `in_order` under a name of its own: the order of the refusals and that of the lists are
+// two rules of document 01, and each has its definition (specs/Order).
 pub fn lists_in_order(
     start: Result<(), Bad>,
     goes_on: Result<(), Bad>,
