@@ -462,7 +462,7 @@ pub extern "C" fn lovemudarn_tokens_from(
         Ok(source) => source,
         Err(bad) => return no_run(refusal::bad_numbers(bad)),
     };
-    // the check of a place comes after the call's own others (document 01), so that calls share `starts_here` and not the refusal
+    // calls share `starts_here`; with the refusal, which each gives after its own checks (document 01), it would be one more public function for these three lines
     if !text::starts_here(text, at) {
         return no_run(refusal::place_numbers(PlaceRefusal::Position(at)));
     }

@@ -256,7 +256,7 @@ pub fn advance_token(
     ensures { result ≡ one_token MAX_PAIRS text.now (lent starts.now continues.now emoji.now) at on }
 {
     let source = Source::new(text, starts, continues, emoji)?;
-    // the check of a place comes after the call's own others (document 01), so that calls share `starts_here` and not the refusal
+    // calls share `starts_here`; with the refusal, which each gives after its own checks (document 01), it would be one more public function for these three lines
     if !text::starts_here(text, at) {
         return Err(PlaceRefusal::Position(at));
     }

@@ -227,7 +227,7 @@ pub fn guarded_double_quoted_string(
     ensures { result ≡ guarded_answer MAX_PAIRS text.now starts.now continues.now at }
 {
     classes::ident_verdict(text, starts, continues)?;
-    // the check of a place comes after the call's own others (document 01), so that calls share `starts_here` and not the refusal
+    // calls share `starts_here`; with the refusal, which each gives after its own checks (document 01), it would be one more public function for these three lines
     if !text::starts_here(text, at) {
         return Err(PlaceRefusal::Position(at));
     }
