@@ -29,7 +29,8 @@ fn put_run(out: &mut [u8], at: usize, run: &[u32]) -> Option<usize>
     Some(next)
 }
 
-// What is held where nothing was loaded.
+// What is held where nothing was loaded: zeros, as they are stored then. No `Default`: it would stand in the crates of `Version` and `Held`,
+// which have no use for one.
 fn nothing_held() -> Held {
     Held {
         version: Version {
@@ -54,9 +55,9 @@ fn put_read(out: &mut [u8], answer: Result<Held, ReadRefusal>) -> Option<usize>
         n.number as usize,
         n.beside,
         n.second,
-        version.major as usize,
-        version.minor as usize,
-        version.update as usize,
+        usize::from(version.major),
+        usize::from(version.minor),
+        usize::from(version.update),
         held.starts,
         held.continues,
         held.emoji,
@@ -81,7 +82,7 @@ fn read_over(
     put_run(out, past_continues, emoji)
 }
 
-// Operation 18: the reader over three runs of so many numbers.
+// Operation 18: the reader over three runs of so many numbers, each the beginning of a room of a fixed size: there is no heap.
 pub fn read(input: &[u8], out: &mut [u8]) -> Option<usize>
     ensures { IfSome result (λ n. n ≤ length out.new) }
 {
@@ -119,7 +120,8 @@ fn sixteen(input: &[u8], at: usize) -> u16 {
     (vectors::number(input, at) % 0x10000) as u16
 }
 
-// Operation 19: the writer over n bytes, each of which held the same one before. A number that is not handed in is 0.
+// Operation 19: the writer over n bytes, each of which held the same one before: the beginning of a room of a fixed size, as there is no heap.
+// A number that is not handed in is 0.
 pub fn write(input: &[u8], lists: Lent, out: &mut [u8]) -> Option<usize>
     ensures { IfSome result (λ n. n ≤ length out.new) }
 {
