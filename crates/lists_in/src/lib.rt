@@ -91,7 +91,7 @@ fn tally_on(t: Tally, low: u32, high: u32) -> Tally
     }
 }
 
-// A record more, in its list.
+// A record more, in its list, which `Entry` holds by its number. The three arms differ in the field alone: a field is not chosen by a number.
 fn tallies_on(t: Each<Tally>, entry: Entry) -> Each<Tally>
     requires { RoomForPair t }
     ensures { result ≡ tallies_on t entry }
@@ -243,7 +243,8 @@ fn fill(file: &[u8], from: usize, pairs: usize, run: &mut [u32]) -> usize
     ensures { Filled file.now from pairs run.old run.new result }
 {
     let mut at = from;
-    // By index: a pair of `chunks_exact_mut` is a slice, whose two places are indexed all the same.
+    // By index: of a run that is lent to `as_chunks_mut` or `chunks_exact_mut`, or parted by a pattern turn by turn, nothing is known of what it ends as, which is
+    // what is promised here.
     for k in 0..pairs {
         let Some((entry, next)) = line_at(file, at) else {
             return at;

@@ -42,7 +42,7 @@ pub fn write_numbers(answer: Result<usize, WriteRefusal>) -> Numbers
     }
 }
 
-// The name of a list, which is known by its number, here and below, as beside refusal 3.
+// The name of a list, by its number, here and below: no enum, since `ranges::check_list` takes that number, and refusal 3 hands it to the C interface.
 fn name_of(which: usize) -> &'static [u8]
     ensures { result.now ≡ name_of which }
 {
@@ -130,7 +130,7 @@ fn file_bytes(version: Version, starts: &[u32], continues: &[u32], emoji: &[u32]
     first + start + goes_on + group_bytes(2, emoji)
 }
 
-// Puts the lines of a list.
+// Puts the lines of a list. It goes as `group_bytes` does, which writes nothing: there is no heap, and the file is measured before the caller's buffer is touched.
 fn put_group(out: &mut [u8], at: usize, which: usize, list: &[u32]) -> usize
     requires { at + length (group_lines which list.now) ≤ length out.old }
     ensures { Put (group_lines which list.now) out.old at out.new result }
