@@ -17,8 +17,8 @@ use Rattle.machine.specs.declared.Mode.{Mode}
 use Rattle.machine.specs.declared.Mode.TheVariants.{Start, OneSlash, InWord, InBadWord, InString, GotR, GotK, GotB, GotC, GotHash, GotQuote, GotZero, InDigits}
 use Rattle.machine.specs.Machine.{Next, taken, at_other, at_start}
 use Rattle.goes.proofs.Choices.{of_first, of_first_as}
-use Rattle.turns.specs.declared.First.TheVariants.{Holds, Blank}
-use Rattle.turns.specs.First.{late_mode, other_mode, first_of, begun}
+use Rattle.turns.specs.declared.Shown.TheVariants.{Line, None}
+use Rattle.turns.specs.First.{late_mode, other_mode, first, first_of, begun}
 
 -- what holds of the code of each symbol holds of a symbol
 module _ (P : ℕ → Type 0) (c : ℕ) where
@@ -59,5 +59,5 @@ module _ (L : Lists) (p c : ℕ) where
 
   pub first_as : (gap : Bool) → begun p c (first_of L gap c) ≡ at_start L p gap c
   unfolding at_start
-  first_as true = of_first_as (begun p c) ((is '/' c, Holds (OneSlash true)) ∷ (is_whitespace c, Holds (Start true)) ∷ []) other_as
-  first_as false = of_first_as (begun p c) ((is '/' c, Holds (OneSlash false)) ∷ (is_whitespace c, Blank (Start true)) ∷ []) other_as
+  first_as true = of_first_as (begun p c) ((is '/' c, first None (OneSlash true)) ∷ (is_whitespace c, first None (Start true)) ∷ []) other_as
+  first_as false = of_first_as (begun p c) ((is '/' c, first None (OneSlash false)) ∷ (is_whitespace c, first Line (Start true)) ∷ []) other_as

@@ -31,7 +31,7 @@ module _ (L : Lists) (m : Mode) (c : ℕ) where
   step_ends {t} q e h = record { does = λ st p. h.does L.continues st p ∙ sym (ap (λ (g : Goes). shown L st p c (record { before = t.before; goes = g })) e) ∙ q.does st p }
 
 -- what begins is what is shown of it, after what was held back
-pub begins_as : (L : Lists) (u : Before) (gap : Bool) (c : ℕ) {f g : First} {t : Stepped} → f ≡ first_of L gap c → f ≡ g → ((st p : ℕ) → done st p c t ≡ preceded (before_out u) (begun p c g))
+pub begins_as : (L : Lists) (u : Before) (gap : Bool) (c : ℕ) {f : First} {t : Stepped} → f ≡ first_of L gap c → ((st p : ℕ) → done st p c t ≡ preceded (before_out u) (begun p c f))
     → Begins L.starts L.emoji u gap c t
-begins_as L u gap c q r h =
-    record { does = λ b st p. h st p ∙ ap (λ (x : First). preceded (before_out u) (begun p c x)) (sym r ∙ q) ∙ ap (preceded (before_out u)) (first_as (lent L.starts b L.emoji) p c gap) }
+begins_as L u gap c q h =
+    record { does = λ b st p. h st p ∙ ap (λ (x : First). preceded (before_out u) (begun p c x)) q ∙ ap (preceded (before_out u)) (first_as (lent L.starts b L.emoji) p c gap) }

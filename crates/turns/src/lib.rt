@@ -35,20 +35,19 @@ pub struct Turn {
     pub goes: Goes,
 }
 
-// What a character does where a token begins: it is written; nothing is; or one newline. Three cases with a mode each, which no Option says.
-#[derive(Clone, Copy)]
-pub enum First {
-    Writes(Mode),
-    Holds(Mode),
-    Blank(Mode),
-}
-
 // What is written for the character itself: it, one newline in place of a run of trivia, or nothing. With an Option of two cases `match` would be no plainer.
 #[derive(Clone, Copy)]
 pub enum Shown {
     Itself,
     Line,
     None,
+}
+
+// What a character does where a token begins: what is written, and the mode after it.
+#[derive(Clone, Copy)]
+pub struct First {
+    pub shown: Shown,
+    pub mode: Mode,
 }
 
 // What a character does: what is written, the mode after it, and whether a token begins with it. No Option for `begins`: the mode is there in either case.
@@ -94,13 +93,25 @@ fn begins(gap: bool, c: CodePoint, lists: &Lists) -> First
     ensures { result ≡ first_of lists.now gap c }
 {
     if c == 0x2F {
-        First::Holds(Mode::OneSlash { gap })
+        First {
+            shown: Shown::None,
+            mode: Mode::OneSlash { gap },
+        }
     } else if !classes::is_whitespace(c) {
-        First::Writes(other_mode(c, lists))
+        First {
+            shown: Shown::Itself,
+            mode: other_mode(c, lists),
+        }
     } else if gap {
-        First::Holds(Mode::Start { gap: true })
+        First {
+            shown: Shown::None,
+            mode: Mode::Start { gap: true },
+        }
     } else {
-        First::Blank(Mode::Start { gap: true })
+        First {
+            shown: Shown::Line,
+            mode: Mode::Start { gap: true },
+        }
     }
 }
 
@@ -251,15 +262,11 @@ fn turn_of(mode: Mode, c: CodePoint, lists: &Lists) -> Turn
 fn step_first(before: Before, gap: bool, c: CodePoint, lists: &Lists) -> Stepped
     ensures { Begins lists.now.starts lists.now.emoji before gap c result }
 {
-    let (shown, mode) = match begins(gap, c, lists) {
-        First::Writes(mode) => (Shown::Itself, mode),
-        First::Holds(mode) => (Shown::None, mode),
-        First::Blank(mode) => (Shown::Line, mode),
-    };
+    let first = begins(gap, c, lists);
     Stepped {
         before,
-        shown,
-        mode,
+        shown: first.shown,
+        mode: first.mode,
         begins: true,
     }
 }
