@@ -3,44 +3,63 @@
 // Each room is an array of a fixed size, and a number says how much of it is in use: there is no heap.
 #![tactic(auto)]
 
+use key::KeyRefusal;
 use lists_file::Version;
-use refusal::Numbers;
+use plan::ListRefusal;
+use refusal::{Bad, Cause, Numbers};
 use std::io::Write;
 use std::{fmt, io};
 use token::{Token, TokenKind};
 
-// A refusal by number, with what it means.
+// A refusal by its numbers, and what it means, where this example says so.
 #[derive(Clone, Copy)]
-struct Explained(Numbers);
+struct Explained {
+    numbers: Numbers,
+    meaning: &'static str,
+}
 
 impl fmt::Display for Explained {
     fn fmt<W: fmt::Write>(&self, f: &mut fmt::Formatter<W>) -> fmt::Result {
-        let Numbers {
-            number,
-            beside,
-            second,
-        } = self.0;
-        write!(f, "refused with number {number} at byte {beside}")?;
-        match (number, second) {
-            (2, 1) => write!(
-                f,
-                ": the text is not UTF-8 there: the byte there cannot start a character"
-            ),
-            (2, 2) => write!(
-                f,
-                ": the text is not UTF-8 there: it ends inside a character"
-            ),
-            (2, _) => write!(
-                f,
-                ": the text is not UTF-8 there: a byte after the first is wrong"
-            ),
-            (6, _) => write!(
-                f,
-                ": a literal or a block comment begins there and does not end"
-            ),
-            _ => Ok(()),
-        }
+        let Numbers { number, beside, .. } = self.numbers;
+        let meaning = self.meaning;
+        write!(f, "refused with number {number} at byte {beside}{meaning}")
     }
+}
+
+// What a refusal that calls share means.
+fn bad_meaning(bad: Bad) -> &'static str {
+    match bad {
+        Bad::NotUtf8(_, Cause::Start) => {
+            ": the text is not UTF-8 there: the byte there cannot start a character"
+        }
+        Bad::NotUtf8(_, Cause::Cut) => ": the text is not UTF-8 there: it ends inside a character",
+        Bad::NotUtf8(_, Cause::Follow) => {
+            ": the text is not UTF-8 there: a byte after the first is wrong"
+        }
+        Bad::TooLong | Bad::List(_, _) => "",
+    }
+}
+
+// What a refusal of a key means.
+fn key_meaning(refusal: KeyRefusal) -> &'static str {
+    match refusal {
+        KeyRefusal::Broken(_) => ": a literal or a block comment begins there and does not end",
+        KeyRefusal::Shared(bad) => bad_meaning(bad),
+        _ => "",
+    }
+}
+
+// What a refusal of the tokens means.
+fn list_meaning(refusal: ListRefusal) -> &'static str {
+    match refusal {
+        ListRefusal::Slots(_) => "",
+        ListRefusal::Shared(bad) => bad_meaning(bad),
+    }
+}
+
+// A line for a refusal: the numbers are those of the C interface.
+fn say_refused<W: Write>(to: &mut W, numbers: Numbers, meaning: &'static str) -> io::Result<()> {
+    writeln!(to, "{}", Explained { numbers, meaning })
 }
 
 // The key of a text, with lent lists.
@@ -55,7 +74,7 @@ fn say_key_by<W: Write>(
     let answer = key::key(text, starts, continues, emoji, &mut out);
     match answer {
         Ok(n) => to.write_all(&out[..n]),
-        Err(_) => writeln!(to, "{}", Explained(key::key_numbers(answer))),
+        Err(refusal) => say_refused(to, key::key_numbers(answer), key_meaning(refusal)),
     }
 }
 
@@ -132,7 +151,11 @@ fn say_tokens<W: Write>(to: &mut W, text: &[u8]) -> io::Result<()> {
             .iter()
             .take(n)
             .try_for_each(|token| say_token(to, token)),
-        Err(_) => writeln!(to, "{}", Explained(plan::list_numbers(records.answer))),
+        Err(refusal) => say_refused(
+            to,
+            plan::list_numbers(records.answer),
+            list_meaning(refusal),
+        ),
     }
 }
 
