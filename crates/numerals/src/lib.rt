@@ -4,11 +4,12 @@
 // `based` and `decimal` stay two rules, as in the book: a number with a base may be empty, and one without begins with a digit that was read before.
 #![tactic(auto)]
 
-ghost use Rattle.std.specs.Prelude.{◌≡◌, true};
+ghost use Rattle.std.specs.Prelude.{◌≡◌};
 ghost use Rattle.token.specs.Numbers;
 ghost use Rattle.token.specs.Numbers.{sign, exponent, maybe_exponent, after_point, after_digits};
 ghost use Rattle.cursor.specs.Ran.{Ran};
 ghost use Rattle.numerals.specs.Counts.{digit_of, digits_of, CountedDigits};
+ghost use Rattle.numerals.specs.Followed.{followed};
 
 use cursor::Cursor;
 use lists::Lists;
@@ -69,7 +70,7 @@ fn eat_sign(text: &[u8], from: Cursor) -> Cursor
 
 // An exponent, after its e: it is empty if it has no digit.
 fn eat_float_exponent(text: &[u8], from: Cursor, base: Base) -> Numeral
-    ensures { Ran (exponent base) text.now from result.next (record { kind = result.kind; suffixed = true }) }
+    ensures { Ran (exponent base) text.now from result.next (followed result.kind) }
 {
     let digits = eat_digits(text, eat_sign(text, from), Base::Decimal);
     Numeral {
@@ -83,7 +84,7 @@ fn eat_float_exponent(text: &[u8], from: Cursor, base: Base) -> Numeral
 
 // An exponent, if there is one; otherwise the number is of the kind that it is without one.
 fn maybe_exponent(text: &[u8], from: Cursor, base: Base, otherwise: LiteralKind) -> Numeral
-    ensures { Ran (maybe_exponent base (record { kind = otherwise; suffixed = true })) text.now from result.next (record { kind = result.kind; suffixed = true }) }
+    ensures { Ran (maybe_exponent base (followed otherwise)) text.now from result.next (followed result.kind) }
 {
     match from.first(text) {
         0x45 | 0x65 => eat_float_exponent(text, from.bump(text), base),
@@ -96,7 +97,7 @@ fn maybe_exponent(text: &[u8], from: Cursor, base: Base, otherwise: LiteralKind)
 
 // After a point that joins: digits, and then an exponent. Without a digit there is no exponent either.
 fn after_point(text: &[u8], from: Cursor, base: Base) -> Numeral
-    ensures { Ran (after_point base) text.now from result.next (record { kind = result.kind; suffixed = true }) }
+    ensures { Ran (after_point base) text.now from result.next (followed result.kind) }
 {
     let kind = LiteralKind::Float {
         base,
@@ -111,7 +112,7 @@ fn after_point(text: &[u8], from: Cursor, base: Base) -> Numeral
 
 // After the digits of a number. A point joins, unless another one follows, as in a range, or the start of an identifier, as in a call of a method.
 fn fraction(text: &[u8], from: Cursor, base: Base, lists: &Lists) -> Numeral
-    ensures { Ran (Numbers.fraction lists.now base) text.now from result.next (record { kind = result.kind; suffixed = true }) }
+    ensures { Ran (Numbers.fraction lists.now base) text.now from result.next (followed result.kind) }
 {
     let kind = LiteralKind::Int {
         base,
@@ -129,7 +130,7 @@ fn fraction(text: &[u8], from: Cursor, base: Base, lists: &Lists) -> Numeral
 
 // After the digits that follow a base prefix: without a digit the number is empty, and ends there.
 fn after_digits(text: &[u8], digits: Digits, base: Base, lists: &Lists) -> Numeral
-    ensures { Ran (after_digits lists.now base digits.some) text.now digits.next result.next (record { kind = result.kind; suffixed = true }) }
+    ensures { Ran (after_digits lists.now base digits.some) text.now digits.next result.next (followed result.kind) }
 {
     if digits.some {
         return fraction(text, digits.next, base, lists);
@@ -145,14 +146,14 @@ fn after_digits(text: &[u8], digits: Digits, base: Base, lists: &Lists) -> Numer
 
 // A number after its base prefix.
 fn based(text: &[u8], from: Cursor, base: Base, lists: &Lists) -> Numeral
-    ensures { Ran (Numbers.based lists.now base (digits_of base) (digit_of base)) text.now from result.next (record { kind = result.kind; suffixed = true }) }
+    ensures { Ran (Numbers.based lists.now base (digits_of base) (digit_of base)) text.now from result.next (followed result.kind) }
 {
     after_digits(text, eat_digits(text, from, base), base, lists)
 }
 
 // A number without a base prefix.
 fn decimal(text: &[u8], from: Cursor, lists: &Lists) -> Numeral
-    ensures { Ran (Numbers.decimal lists.now) text.now from result.next (record { kind = result.kind; suffixed = true }) }
+    ensures { Ran (Numbers.decimal lists.now) text.now from result.next (followed result.kind) }
 {
     let digits = eat_digits(text, from, Base::Decimal);
     fraction(text, digits.next, Base::Decimal, lists)
@@ -160,7 +161,7 @@ fn decimal(text: &[u8], from: Cursor, lists: &Lists) -> Numeral
 
 // A number, after its first digit. A letter after a 0 may be a base prefix.
 pub fn number(text: &[u8], from: Cursor, first: CodePoint, lists: &Lists) -> Numeral
-    ensures { Ran (Numbers.number lists.now first) text.now from result.next (record { kind = result.kind; suffixed = true }) }
+    ensures { Ran (Numbers.number lists.now first) text.now from result.next (followed result.kind) }
 {
     if first != 0x30 {
         return decimal(text, from, lists);
