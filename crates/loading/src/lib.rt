@@ -82,6 +82,7 @@ pub fn load<R: Env + Files, W: Write>(
     let Some(mut opened) = named(rt) else {
         return refused(to, refusal::done(0, 0));
     };
+    // a room of a fixed size, and how much of it the file fills: there is no heap
     let mut file: [u8; 524289] = input::filled(0);
     let Ok(bytes) = input::read_full(&mut opened, &mut file) else {
         return refused(to, refusal::done(0, 0));

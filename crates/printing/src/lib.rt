@@ -22,6 +22,7 @@ pub const INPUT_ROOM: usize = 65537;
 
 // Writes the lines of a text that was checked part by part, each as long as the room. A part that stands still is the end: every token but
 // Eof has a byte, and the room takes a line at least. So no `Option` need say it.
+// `used` says how much of the room a part takes, here and in `say_lined`: there is no heap.
 fn say_lines<W: Write>(to: &mut W, source: &Source) -> io::Result<()>
     ensures { OnOk result (Appends (W.contents to.old) (W.contents to.new) (lines_from source.now.lists source.now.text 0)) }
 {
@@ -104,7 +105,7 @@ pub fn say_tokens<W: Write>(
 }
 
 // Writes the key of a text: its bytes and nothing else. Or why it has none, as above. No key begins as such a line does: a tab is whitespace, and of
-// whitespace a key has newlines only. A key is no longer than its text: the room of 65,536 bytes is enough.
+// whitespace a key has newlines only. A key is no longer than its text: the room of 65,536 bytes is enough, and the answer says how much of it the key takes.
 pub fn say_key<W: Write>(
     to: &mut W,
     text: &[u8],
