@@ -112,12 +112,10 @@ pub fn put(out: &mut [u8], at: usize, ns: &[usize]) -> Option<usize>
     if (out.len() - at) / 4 < ns.len() {
         return None;
     }
-    let mut next = at;
-    for n in ns {
-        out[next..next + 4].copy_from_slice(&n.to_le_bytes()[..4]);
-        next += 4;
+    for (four, n) in out[at..].chunks_exact_mut(4).zip(ns) {
+        four.copy_from_slice(&n.to_le_bytes()[..4]);
     }
-    Some(next)
+    Some(at + ns.len() * 4)
 }
 
 // Puts the three numbers of an answer into out and answers how many bytes that took.
