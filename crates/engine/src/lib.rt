@@ -224,6 +224,7 @@ pub fn whole(writing: bool, text: &[u8], lists: &Lists, out: &mut [u8]) -> Resul
     requires { KeyReady writing lists.now text.now out.old }
     ensures { KeyMade writing lists.now text.now out.old out.new result }
 {
+    // The value of `begin` in the specs of `machine`, written out here and in `kept`: crate `machine` has types and no function.
     let begin = State {
         mode: Mode::Start { gap: false },
         from: 0,

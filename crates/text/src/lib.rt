@@ -176,7 +176,7 @@ pub fn check_length(text: &[u8]) -> Result<(), Bad>
 }
 
 // Whether the next eight bytes are there and all of them are ASCII: joined, they are asked at once. It looks at every eighth position alone,
-// so that a text of other letters pays little; where it says no, nothing is promised.
+// so that a text of other letters pays little; where it says no, nothing is promised. By their places: `all` would ask of each byte by itself.
 #[tactic(auto, using(crate::proofs::Runs::joined_more))]
 pub fn eight_ascii(text: &[u8], at: usize) -> bool
     requires { at ≤ length text.now }

@@ -1,6 +1,7 @@
 // One character of the machine of crate `machine`, in any mode: what it does to the token before it, what begins with it, and both in one.
 // Each mode has its function, as it has its rule in specs/: the `match` over the modes is the table. `Shallow` is asked and is no part of the type: `Mode` is the
 // machine's own data, of which theorems speak with any depth.
+// `gap` and `c`, and `c` and `lists`, travel as two, as the rules in specs/ take them: `gap` is told of the token before, and the lists are the same for every character.
 #![tactic(auto)]
 
 ghost use Rattle.std.specs.Prelude.{◌≡◌};
