@@ -4,10 +4,10 @@ use Rattle.std.specs.List.{starts_with}
 use Prim.Native.Nat.{ℕ, zero, suc, ◌+◌, ◌≤◌, ◌<◌}
 use mathlib.Core.Path.{◌≡◌, refl, sym, ap, ◌∙◌}
 use mathlib.Core.List.{List, [], ◌∷◌}
-use mathlib.Core.Bool.{Bool, true, false, true≢false, ◌&&◌}
+use mathlib.Core.Bool.{Bool, true, false}
 use lib.ListN.{length, drop, length-drop}
 use lib.Dec.{eqb}
-use borrow.Author.Tests.{eq-eqb, ne_eqb, eqb-true}
+use borrow.Author.Tests.{ne_eqb}
 use native.Mathlib.Omega.{arith}
 use Rattle.basics.specs.Choice.{and}
 use Rattle.text.specs.declared.Decoded.{Decoded}
@@ -17,7 +17,7 @@ use Rattle.text.specs.Utf8.{decoded}
 use Rattle.text.specs.Chars.{chars}
 use Rattle.text.proofs.Places.{char_chars, end_chars, ill_chars}
 use Rattle.eaters.specs.Find.{nowhere, find}
-use Rattle.eaters.specs.Look.{begins}
+use Rattle.eaters.proofs.Begins.{begins_with}
 use Rattle.line_ends.specs.LineEnds.{cr_lf, double_at, double_return}
 use Rattle.places.specs.Found.{found_at}
 use Rattle.places.proofs.Searches.{NoneBefore, none_before, found_here, none_here, none_left}
@@ -37,22 +37,6 @@ module _ (s : List ℕ) (next : ℕ) {c : ℕ} where
   lf_none n = rw (ne_eqb c 13 n)
 
 -- CR CR LF AT THE FRONT, by the library's word and by the book's
-eqb_swap : (x y : ℕ) → eqb x y ≡ eqb y x
-eqb_swap x y = go (eqb x y) refl
-  where
-    go : (t : Bool) → eqb x y ≡ t → t ≡ eqb y x
-    go true e = sym (eq-eqb y x (sym (eqb-true x y e)))
-    go false e = sym (ne_eqb y x (λ q. true≢false (sym (eq-eqb x y (sym q)) ∙ e)))
-
-begins_with : (l s : List ℕ) → starts_with eqb s l ≡ begins l s
-begins_with [] s = refl
-begins_with (x ∷ l) [] = refl
-begins_with (x ∷ l) (c ∷ s) = rw (eqb_swap x c) (go (eqb c x) (begins_with l s))
-  where
-    go : (t : Bool) → starts_with eqb s l ≡ begins l s → (t && starts_with eqb s l) ≡ and t (begins l s)
-    go true e = e
-    go false e = refl
-
 pub double_is : (s : List ℕ) {t : Bool} → t ≡ starts_with eqb s (13 ∷ 13 ∷ 10 ∷ []) → t ≡ double_at s
 double_is s e = e ∙ begins_with (13 ∷ 13 ∷ 10 ∷ []) s
 

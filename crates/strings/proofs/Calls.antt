@@ -1,11 +1,11 @@
 -- The public calls, in the facts of the code.
 use Prim.Native.Nat.{ℕ, ◌≤◌}
 use mathlib.Core.Path.{◌≡◌, refl, sym, ap, ◌∙◌}
-use mathlib.Core.Bool.{Bool, true, false, true≢false, ◌&&◌}
+use mathlib.Core.Bool.{Bool, true, false}
 use mathlib.Core.List.{List, [], ◌∷◌}
 use lib.ListN.{length}
 use lib.Dec.{eqb}
-use borrow.Author.Tests.{eq-eqb, ne_eqb, eqb-true}
+use borrow.Author.Tests.{ne_eqb}
 use Rattle.basics.specs.Choice.{and, or}
 use Rattle.std.specs.Prelude.{Ok, Err}
 use Rattle.std.specs.List.{starts_with}
@@ -18,10 +18,11 @@ use Rattle.text.specs.Verdicts.{too_long, utf8_verdict}
 use Rattle.text.proofs.Positions.{boundary_byte}
 use Rattle.text.proofs.Verdicts.{fine_long, fine_utf8}
 use Rattle.ranges.proofs.Laws.{nothing_good}
-use Rattle.ranges.specs.Rules.{list_verdict, Good, flaw_from}
+use Rattle.ranges.specs.Rules.{list_verdict, Good}
 use Rattle.classes.specs.Answers.{ident_verdict}
 use Rattle.classes.proofs.Checks.{ident_starts, ident_continues}
 use Rattle.eaters.specs.Look.{begins}
+use Rattle.eaters.proofs.Begins.{begins_with}
 use Rattle.token.specs.Lists.{Lists, lent}
 use Rattle.token.specs.Names.{'b', 'c', 'r'}
 use Rattle.strings.specs.declared.GuardedAt.{GuardedAt}
@@ -29,22 +30,6 @@ use Rattle.strings.specs.RawChecks.{is_prefix}
 use Rattle.strings.specs.Guards.{guarded_at, guarded_answer}
 
 -- THE PREFIX: the bytes at the front, by the library's word and by the book's
-eqb_swap : (x y : ℕ) → eqb x y ≡ eqb y x
-eqb_swap x y = go (eqb x y) refl
-  where
-    go : (t : Bool) → eqb x y ≡ t → t ≡ eqb y x
-    go true e = sym (eq-eqb y x (sym (eqb-true x y e)))
-    go false e = sym (ne_eqb y x (λ q. true≢false (sym (eq-eqb x y (sym q)) ∙ e)))
-
-begins_with : (l s : List ℕ) → starts_with eqb s l ≡ begins l s
-begins_with [] s = refl
-begins_with (x ∷ l) [] = refl
-begins_with (x ∷ l) (c ∷ s) = rw (eqb_swap x c) (go (eqb c x) (begins_with l s))
-  where
-    go : (t : Bool) → starts_with eqb s l ≡ begins l s → (t && starts_with eqb s l) ≡ and t (begins l s)
-    go true e = e
-    go false e = refl
-
 or_false : (t : Bool) → t ≡ or t false
 or_false true = refl
 or_false false = refl
