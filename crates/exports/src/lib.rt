@@ -4,7 +4,8 @@
 // pointer and a count.
 //
 // The C interface wants flat structs of numbers and flags, each with its three numbers first and zeros where a call refuses: so no `Option`, no `Result`, no struct
-// in a struct, the parameters as C has them, and a function named as its rule in specs/ for each answer, where a `From` would stand for a rule that has a name.
+// in a struct, the parameters as C has them, and a function named as its rule in specs/ for each answer, where a `From` would stand for a rule that has a name. Each
+// field is named: `..no_token(n)` would call a token that is given a refused one.
 #![tactic(auto)]
 
 ghost use Rattle.std.specs.Prelude.{◌≡◌, true, Some, None};

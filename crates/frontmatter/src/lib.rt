@@ -23,8 +23,8 @@ use lists::Lists;
 use text::CodePoint;
 use token::TokenKind;
 
-// Whether these characters, all of ASCII, are at the cursor: each byte of the pattern is a character. The search is by hand, as the place is shut in a cursor, which steps by
-// characters: the words of slices go by bytes.
+// Whether these characters, all of ASCII, are at the cursor: each byte of the pattern is a character. By hand, since a cursor steps by characters and the words of
+// slices go by bytes: with them the clause would want a law that a text begins with the same characters as bytes, where all are ASCII.
 fn starts_with(text: &[u8], from: Cursor, pattern: &[u8]) -> bool
     ensures { result ≡ begins pattern.now (rest text.now from) }
 {
