@@ -1,20 +1,31 @@
 -- Laws of bytes put into a buffer, in the facts of the code.
-use Prim.Native.Nat.{ℕ, ◌+◌, ◌-◌, ◌≤◌}
+use Prim.Native.Nat.{ℕ, ◌+◌, ◌-◌, ◌≤◌, ◌<◌}
 use mathlib.Core.Path.{◌≡◌, refl, sym, ap, ◌∙◌}
 use mathlib.Core.List.{List, [], ◌∷◌, ◌++◌, append_assoc}
-use lib.ListN.{length, take, drop, set, length-append, length-take, length-drop}
-use lib.Seq.{set_split, take_at, drop_at, drop-drop, length-take-le}
+use lib.ListN.{length, take, drop, get_or, set, length-append, length-take, length-drop, length-set}
+use lib.Seq.{paste, paste-zero, paste-suc, take-length, set_split, take_at, drop_at, drop-drop, length-take-le}
 use native.Mathlib.Numerals.{add-one}
 use native.Mathlib.Omega.{arith}
-use borrow.Rule.Slice.PartMut.{put_mid}
-use Rattle.std.proofs.lemmas.List.Edits.{paste_all}
-use Rattle.std.proofs.lemmas.Slice.{put_mid-paste}
 use Rattle.puts.specs.Put.{laid, Put}
 
--- bytes copied into their part of the buffer, which then holds `now`
-pub copied : {s out now : List ℕ} {at k : ℕ} → at + length s ≤ length out → now ≡ s → length s ≡ k → Put s out at (put_mid at k out now) (at + length s)
+-- the first i bytes of s are copied into out₀
+pub record Copying (s out₀ : List ℕ) (at : ℕ) (out : List ℕ) (i : ℕ) : Type 0 where
+  pub within : i ≤ length s
+  pub kept : length out ≡ length out₀
+  pub same : out ≡ paste out₀ at s i
+
+pub copy_starts : {s out : List ℕ} {at : ℕ} → Copying s out at out 0
+copy_starts {s} {out} {at} = record { within = omega arith; kept = refl; same = paste-zero out at s }
+
+pub copied : {s out₀ out : List ℕ} {at i : ℕ} → at + length s ≤ length out₀ → Copying s out₀ at out i → i < length s → Copying s out₀ at (set out (at + i) (get_or s i 0)) (i + 1)
+copied {s} {out₀} {out} {at} {i} room c h =
+    record { within = omega arith; kept = simp length-set c.kept; same = ap (λ (l : List ℕ). set l (at + i) (get_or s i 0)) c.same ∙ paste-suc out₀ at s i 0 (omega arith) h ∙ ap (paste out₀ at s) (sym (add-one i)) }
+
+pub pasted : {s out₀ out : List ℕ} {at i : ℕ} → at + length s ≤ length out₀ → Copying s out₀ at out i → length s ≤ i → Put s out₀ at out (at + i)
 unfolding laid
-copied {s} {out} {now} {at} {k} h e n = record { holds = put_mid-paste at k out now s (length s) e n refl ∙ paste_all out at s (length s) refl; next = refl; room = h }
+pasted {s} {out₀} {out} {at} {i} room c l =
+    let n : i ≡ length s = omega arith in
+    record { holds = c.same ∙ ap (paste out₀ at s) n ∙ rw take-length (append_assoc (take at out₀) s (drop (at + length s) out₀)); next = omega arith; room = omega arith }
 
 -- one byte
 pub one_put : {out : List ℕ} {at b : ℕ} → at + 1 ≤ length out → Put (b ∷ []) out at (set out at b) (at + 1)

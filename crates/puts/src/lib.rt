@@ -4,20 +4,19 @@
 ghost use Rattle.std.specs.Prelude.{◌+◌, ◌≤◌, [], ◌∷◌, length};
 ghost use Rattle.puts.specs.Put.{Put};
 
-// One byte is put by itself: most pieces of a key are one, and a call that copies is longer than that.
+// By index: the library's copy is a call of `memmove`, and what C links needs `memcpy` at most (tools/test-archive).
 pub fn put_bytes(out: &mut [u8], at: usize, s: &[u8]) -> usize
     requires { at + length s.now ≤ length out.old }
     ensures { Put s.now out.old at out.new result }
 {
-    if let [b] = s {
-        return put_byte(out, at, *b);
+    let mut i = 0;
+    while i < s.len() {
+        out[at + i] = s[i];
+        i += 1;
     }
-    let end = at + s.len();
-    out[at..end].copy_from_slice(s);
-    end
+    at + i
 }
 
-#[tactic(auto, using(crate::proofs::Puts::one_put))]
 pub fn put_byte(out: &mut [u8], at: usize, b: u8) -> usize
     requires { at + 1 ≤ length out.old }
     ensures { Put (b ∷ []) out.old at out.new result }

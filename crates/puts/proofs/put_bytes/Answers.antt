@@ -1,7 +1,11 @@
--- `puts::put_bytes` meets its contract: the bytes are copied into their part of the buffer (Puts).
-use native.Mathlib.Omega.{arith}
-use Rattle.puts.proofs.Puts.{copied}
+use Rattle.puts.proofs.Puts.{copy_starts, copied, pasted}
 use Rattle.puts.proofs.put_bytes.Goals as goal
 
+pub loop-i-init : goal.loop-i-init
+loop-i-init c = search copy_starts
+
+pub loop-i-preserved : goal.loop-i-preserved
+loop-i-preserved c = search copied
+
 pub returns : goal.returns
-returns c = copied c.requires c.copy_from_slice.ensures.after (omega arith)
+returns c = search pasted
