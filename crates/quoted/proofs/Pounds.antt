@@ -2,16 +2,17 @@
 use Prim.Native.Nat.{ℕ, zero, suc, ◌+◌, ◌-◌, ◌≤◌, ◌<◌}
 use mathlib.Core.Path.{◌≡◌, refl, sym, ap, ◌∙◌}
 use mathlib.Core.List.{List, [], ◌∷◌}
-use lib.ListN.{length, get_or, drop}
+use lib.ListN.{length}
 use native.Mathlib.Omega.{arith}
 use borrow.Author.Tests.{ne_eqb}
 use Rattle.eaters.specs.Eat.{take_most, while_most}
 use Rattle.token.specs.Names.{is, '#'}
 use Rattle.cursor.specs.declared.Cursor.{Cursor}
-use Rattle.cursor.specs.Cursors.{rest}
-use Rattle.cursor.specs.Moved.{Moved, start, onward, arrive}
+use Rattle.std.specs.Prelude.{Option, None, Some}
+use Rattle.cursor.specs.Cursors.{rest, Seen}
+use Rattle.cursor.specs.Moved.{Moved, start, over, onward, arrive}
 use Rattle.cursor.specs.Ran.{left}
-use Rattle.cursor.proofs.Moves.{bumped, settled}
+use Rattle.cursor.proofs.Moves.{char_at, end_at}
 use Rattle.quoted.specs.Raws.{CountedMost}
 
 -- AT MOST m HASHES: n are counted, so m - n may still come
@@ -24,21 +25,25 @@ left_most k cs = left (while_most k (is '#')) cs
 most_on : (k c : ℕ) (cs : List ℕ) → c ≡ 0x23 → most (suc k) (c ∷ cs) ≡ suc (most k cs)
 most_on k c cs e = rw e
 
+most_off : (k c : ℕ) (cs : List ℕ) → (c ≡ 0x23 → ⊥) → most (suc k) (c ∷ cs) ≡ 0
+most_off k c cs n = rw (ne_eqb c 0x23 n)
+
 left_on : (k c : ℕ) (cs : List ℕ) → c ≡ 0x23 → left_most (suc k) (c ∷ cs) ≡ left_most k cs
 unfolding while_most
 left_on k c cs e = rw e
 
--- another character in front, or none
-left_stop : (k : ℕ) (cs : List ℕ) → (get_or cs 0 0 ≡ 0x23 → ⊥) → left_most k cs ≡ cs
+left_off : (k c : ℕ) (cs : List ℕ) → (c ≡ 0x23 → ⊥) → left_most (suc k) (c ∷ cs) ≡ c ∷ cs
 unfolding while_most
-left_stop zero cs n = refl
-left_stop (suc k) [] n = refl
-left_stop (suc k) (c ∷ cs) n = rw (ne_eqb c 0x23 n)
+left_off k c cs n = rw (ne_eqb c 0x23 n)
 
-most_stop : (k : ℕ) (cs : List ℕ) → (get_or cs 0 0 ≡ 0x23 → ⊥) → most k cs ≡ 0
-most_stop zero cs n = refl
-most_stop (suc k) [] n = refl
-most_stop (suc k) (c ∷ cs) n = rw (ne_eqb c 0x23 n)
+left_none : (k : ℕ) → left_most k [] ≡ []
+unfolding while_most
+left_none zero = refl
+left_none (suc k) = refl
+
+most_none : (k : ℕ) → most k [] ≡ 0
+most_none zero = refl
+most_none (suc k) = refl
 
 left_done : (cs : List ℕ) → left_most 0 cs ≡ cs
 unfolding while_most
@@ -56,24 +61,42 @@ most_start m s a =
     record { moved = start s a; same = ap (λ (k : ℕ). left_most k (rest s a)) z; count = omega (arith, ap (λ (k : ℕ). most k (rest s a)) z); few = omega arith }
 
 module _ (m : ℕ) {s : List ℕ} {a b : Cursor} {n : ℕ} (i : CountingMost m s a b n) where
-  module _ {x : ℕ} (e : x ≡ get_or (rest s b) 0 0) where
-    pub most_more : {d : Cursor} → n < m → x ≡ 0x23 → Moved s b d (drop 1 (rest s b)) → CountingMost m s a d (n + 1)
-    most_more {d} l q v =
-        let f : rest s b ≡ x ∷ rest s d = bumped e (omega arith) v in
-        let k : m - n ≡ suc (m - (n + 1)) = omega arith in
-        record {
-          moved = settled (onward i.moved v);
-          same = sym (left_on (m - (n + 1)) x (rest s d) q) ∙ sym (ap (λ (k : ℕ). left_most k (rest s b)) k ∙ ap (left_most (suc (m - (n + 1)))) f) ∙ i.same;
-          count = omega (arith, i.count, ap (λ (k : ℕ). most k (rest s b)) k, ap (most (suc (m - (n + 1)))) f, most_on (m - (n + 1)) x (rest s d) q);
-          few = omega arith;
-        }
+  module _ (l : n < m) {r : Option (ℕ × Cursor)} (h : Seen s b r) where
+    next_left : m - n ≡ suc (m - (n + 1))
+    next_left = omega arith
 
-    pub most_other : (x ≡ 0x23 → ⊥) → CountedMost m s a (record { next = b; count = n })
-    most_other q =
-        let o : get_or (rest s b) 0 0 ≡ 0x23 → ⊥ = λ p. q (e ∙ p) in
+    module _ {x : ℕ} {d : Cursor} (e : r ≡ Some (x, d)) where
+      here_left : left_most (m - n) (rest s b) ≡ left_most (suc (m - (n + 1))) (x ∷ rest s d)
+      here_left = ap (λ (k : ℕ). left_most k (rest s b)) next_left ∙ ap (left_most (suc (m - (n + 1)))) (char_at e h).chars
+
+      here_most : most (m - n) (rest s b) ≡ most (suc (m - (n + 1))) (x ∷ rest s d)
+      here_most = ap (λ (k : ℕ). most k (rest s b)) next_left ∙ ap (most (suc (m - (n + 1)))) (char_at e h).chars
+
+      pub most_more : x ≡ 0x23 → CountingMost m s a d (n + 1)
+      most_more q =
+          record {
+            moved = onward i.moved (over (char_at e h));
+            same = sym (left_on (m - (n + 1)) x (rest s d) q) ∙ sym here_left ∙ i.same;
+            count = omega (arith, i.count, here_most, most_on (m - (n + 1)) x (rest s d) q);
+            few = omega arith;
+          }
+
+      another : (x ≡ 0x23 → ⊥) → CountedMost m s a (record { next = b; count = n })
+      another q =
+          record {
+            moved = arrive i.moved ((char_at e h).chars ∙ sym (left_off (m - (n + 1)) x (rest s d) q) ∙ sym here_left ∙ i.same);
+            count = omega (arith, i.count, here_most, most_off (m - (n + 1)) x (rest s d) q);
+          }
+
+    -- where the pattern of a hash does not match, its parts have no names
+    pub most_other : {y : ℕ × Cursor} → r ≡ Some y → (y.0 ≡ 0x23 → ⊥) → CountedMost m s a (record { next = b; count = n })
+    most_other {y} e q = another {x = y.0} {d = y.1} e q
+
+    pub most_over : r ≡ None → CountedMost m s a (record { next = b; count = n })
+    most_over e =
         record {
-          moved = arrive i.moved (sym (left_stop (m - n) (rest s b) o) ∙ i.same);
-          count = omega (arith, i.count, most_stop (m - n) (rest s b) o);
+          moved = arrive i.moved (end_at e h ∙ sym (left_none (m - n)) ∙ ap (left_most (m - n)) (sym (end_at e h)) ∙ i.same);
+          count = omega (arith, i.count, ap (most (m - n)) (end_at e h), most_none (m - n));
         }
 
   pub most_done : m ≤ n → CountedMost m s a (record { next = b; count = m })

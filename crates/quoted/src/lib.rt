@@ -44,23 +44,24 @@ fn single_rest(text: &[u8], from: Cursor) -> Ended
     ensures { Ran (scan single_turn 0 1) text.now from result.next result.terminated }
 {
     let mut cur = from;
-    while let Some((c, next)) = cur.peek(text) {
+    let terminated = loop {
+        let Some((c, next)) = cur.peek(text) else {
+            break false;
+        };
         match c {
             0x27 => {
-                return Ended {
-                    next,
-                    terminated: true,
-                };
+                cur = next;
+                break true;
             }
-            0x2F => break,
-            0x0A if cur.second(text) != 0x27 => break,
+            0x2F => break false,
+            0x0A if cur.second(text) != 0x27 => break false,
             0x5C => cur = next.bump(text),
             _ => cur = next,
         }
-    }
+    };
     Ended {
         next: cur,
-        terminated: false,
+        terminated,
     }
 }
 
@@ -83,10 +84,10 @@ pub fn eat_hashes_most(text: &[u8], from: Cursor, most: usize) -> Repeated
 {
     let mut cur = from;
     for count in 0..most {
-        if cur.first(text) != 0x23 {
+        let Some((0x23, next)) = cur.peek(text) else {
             return Repeated { next: cur, count };
-        }
-        cur = cur.bump(text);
+        };
+        cur = next;
     }
     Repeated {
         next: cur,
