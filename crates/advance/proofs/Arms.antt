@@ -1,14 +1,15 @@
 -- The arms of the decision over the first character, in the facts of the code.
-use Prim.Native.Nat.{ℕ, ◌≤◌, ◌<◌}
+use Prim.Native.Nat.{ℕ, ◌+◌, ◌≤◌, ◌<◌}
 use mathlib.Core.Path.{◌≡◌, refl, sym, ap, subst, ◌∙◌}
 use mathlib.Core.Bool.{Bool, true, false, true≢false}
 use mathlib.Core.List.{List, [], ◌∷◌}
 use lib.ListN.{get_or, drop}
 use lib.Dec.{eqb}
 use native.Mathlib.Omega.{arith}
-use borrow.Author.Tests.{ne_eqb, eq-eqb, eqb-true}
+use borrow.Author.Tests.{ne_eqb, eqb-true}
 use mathlib.Core.Logic.{◌⊎◌, inl, inr, ⊎_elim}
-use Rattle.basics.specs.Choice.{or, pick}
+use Rattle.basics.specs.Choice.{or}
+use Rattle.basics.specs.Tests.{is_in}
 use Rattle.basics.proofs.Choices.{yes_or_no, inside_within, under_within, over_within}
 use Rattle.classes.proofs.Points.{no_white, start_other, letter_under}
 use Rattle.classes.specs.Whitespace.{is_whitespace}
@@ -26,8 +27,7 @@ use Rattle.token.specs.Quotes.{double_quoted}
 use Rattle.token.specs.Numbers.{number}
 use Rattle.token.specs.Lifetimes.{lifetime_or_char}
 use Rattle.token.specs.Prefixed.{after_r, after_k, after_b, after_c}
-use Rattle.token.specs.Names.{is, '#'}
-use Rattle.token.specs.Punctuation.{hash_or_quote, pound, Symbol, symbols, is_symbol, symbol_kind}
+use Rattle.token.specs.Punctuation.{hash_or_quote, pound}
 use Rattle.token.specs.Advance.{plain}
 use Rattle.cursor.specs.declared.Cursor.{Cursor}
 use Rattle.cursor.specs.declared.Kinded.TheVariants.{Plain}
@@ -92,6 +92,9 @@ no_digit {c} (inr p) = over_within 0x30 0x39 c (omega arith) p
 arm : (L : Lists) (m : Eater TokenKind) (k : ℕ) → ((cs : List ℕ) → plain L k cs ≡ m cs) → {s : List ℕ} {a : Cursor} {c : ℕ} {r : Scanned} → c ≡ k → Begun m s a r → Begun (plain L c) s a r
 arm L m k f {s} {a} e b = record { past = b.past; ran = ran_as (ap (λ (x : ℕ). plain L x (rest s a)) e ∙ f (rest s a)) b.ran }
 
+pub symbol_in : (k : ℕ) (t : TokenKind) → ((L : Lists) (cs : List ℕ) → plain L k cs ≡ give t cs) → (L : Lists) {s : List ℕ} {a : Cursor} {c : ℕ} {r : Scanned} → c ≡ k → r ≡ handed t a → Begun (plain L c) s a r
+symbol_in k t f L {s} {a} {c} e q = subst (Begun (plain L c) s a) (sym q) (arm L (give t) k (f L) e (begun _ (ran_give t s a)))
+
 module _ (L : Lists) {s : List ℕ} {a : Cursor} {c : ℕ} {r : Scanned} where
   pub slash_in : {x : Lexed} → c ≡ 0x2F → Ran slash s a x.next x.kind → r ≡ handed x.kind x.next → Begun (plain L c) s a r
   unfolding choose
@@ -125,43 +128,55 @@ module _ (L : Lists) {s : List ℕ} {a : Cursor} {c : ℕ} {r : Scanned} where
   unfolding choose is_whitespace id_start letter
   string_in e b = arm L (literal L 1 (double_quoted Str)) 0x22 (λ cs. refl) e (record { past = b.past; ran = b.ran 1 })
 
--- SYMBOLS: what holds of each of the list holds of the one that c is
-abbrev each : (ℕ → TokenKind → Type 0) → List Symbol → Type 0
-each P [] = Unit {0}
-each P (x ∷ l) = P x.code x.kind × each P l
+-- EVERY SINGLE POINT of the decision, and what the code knows of a character that is none of them
+abbrev points : List ℕ
+points =
+    0x2F ∷ 0x72 ∷ 0x6B ∷ 0x62 ∷ 0x63 ∷ 0x23 ∷
+    0x3B ∷ 0x2C ∷ 0x2E ∷ 0x28 ∷ 0x29 ∷ 0x7B ∷ 0x7D ∷ 0x5B ∷ 0x5D ∷ 0x40 ∷ 0x7E ∷ 0x3F ∷ 0x3A ∷
+    0x24 ∷ 0x3D ∷ 0x21 ∷ 0x3C ∷ 0x3E ∷ 0x2D ∷ 0x26 ∷ 0x7C ∷ 0x2B ∷ 0x2A ∷ 0x5E ∷ 0x25 ∷
+    0x27 ∷ 0x22 ∷ []
 
-found : (P : ℕ → TokenKind → Type 0) (l : List Symbol) (c : ℕ) → each P l → is_symbol l c ≡ true → P c (symbol_kind l kind.Unknown c)
-found P [] c u h = absurd (true≢false (sym h))
-found P (x ∷ l) c u h =
-    ⊎_elim (λ e. subst (λ (k : ℕ). P k (pick (eqb k x.code) x.kind (symbol_kind l kind.Unknown k))) (sym (eqb-true c x.code e)) (rw (eq-eqb x.code x.code refl) u.0))
-    (λ e. rw e (found P l c u.1 (sym (ap (λ (t : Bool). or t (is_symbol l c)) e) ∙ h))) (yes_or_no (eqb c x.code))
+abbrev apart : Type 0 → List ℕ → ℕ → Type 0
+apart T [] c = T
+apart T (k ∷ ks) c = apart (T × (c ≡ k → ⊥)) ks c
 
--- at a symbol the chain of tests computes; but a hash may be a prefix
-symbol_arms : (L : Lists) → each (λ k t. is '#' k ≡ false → (cs : List ℕ) → plain L k cs ≡ give t cs) symbols
-unfolding choose is_whitespace id_start letter
-symbol_arms L =
-    (λ n cs. refl, (λ n cs. refl, (λ n cs. refl, (λ n cs. refl, (λ n cs. refl, (λ n cs. refl, (λ n cs. refl, (λ n cs. refl, (λ n cs. refl, (λ n cs. refl, (λ n. absurd (true≢false n), (λ n cs. refl, (λ n cs. refl, (λ n cs. refl, (λ n cs. refl, (λ n cs. refl, (λ n cs. refl, (λ n cs. refl, (λ n cs. refl, (λ n cs. refl, (λ n cs. refl, (λ n cs. refl, (λ n cs. refl, (λ n cs. refl, (λ n cs. refl, (λ n cs. refl, tt))))))))))))))))))))))))))
+apart_first : (T : Type 0) (ks : List ℕ) (c : ℕ) → apart T ks c → T
+apart_first T [] c d = d
+apart_first T (k ∷ ks) c d = (apart_first (T × (c ≡ k → ⊥)) ks c d).0
 
-pub symbol_in : (L : Lists) (c : ℕ) {s : List ℕ} {a : Cursor} {k : TokenKind} {r : Scanned} → (is_symbol symbols c ≡ true) × (k ≡ symbol_kind symbols kind.Unknown c) → (c ≡ 0x23 → ⊥) → r ≡ handed k a → Begun (plain L c) s a r
-symbol_in L c {s} {a} {k} h n q =
-    let f = found (λ k t. is '#' k ≡ false → (cs : List ℕ) → plain L k cs ≡ give t cs) symbols c (symbol_arms L) h.0 (ne_eqb c 0x23 n) in
-    subst (Begun (plain L c) s a) (sym (q ∙ ap (λ (t : TokenKind). handed t a) h.1)) (begun (plain L c) (ran_as (f (rest s a)) (ran_give (symbol_kind symbols kind.Unknown c) s a)))
+apart_from : (T : Type 0) (ks : List ℕ) (c k : ℕ) → is_in ks k ≡ true → apart T ks c → c ≡ k → ⊥
+apart_from T [] c k h d q = absurd (true≢false (sym h))
+apart_from T (j ∷ ks) c k h d q =
+    ⊎_elim (λ e. (apart_first (T × (c ≡ j → ⊥)) ks c d).1 (q ∙ eqb-true k j e))
+    (λ e. apart_from (T × (c ≡ j → ⊥)) ks c k (sym (ap (λ (t : Bool). or t (is_in ks k)) e) ∙ h) d q) (yes_or_no (eqb k j))
 
--- A DIGIT
-digit_arm : (L : Lists) {c : ℕ} → 0x30 ≤ c → c ≤ 0x39 → (cs : List ℕ) → plain L c cs ≡ literal L 1 (number L c) cs
-unfolding choose
-digit_arm L {c} p q cs =
-    rw (ne_eqb c 0x2F (λ e. omega arith), digit_white p q, ne_eqb c 0x72 (λ e. omega arith), ne_eqb c 0x6B (λ e. omega arith), ne_eqb c 0x62 (λ e. omega arith), ne_eqb c 0x63 (λ e. omega arith), digit_start L p q, inside_within 0x30 0x39 c p q)
+abbrev pub Apart : ℕ → Type 0
+Apart c = apart (Unit {0}) points c
 
-pub digit_in : (L : Lists) {c : ℕ} {s : List ℕ} {a : Cursor} {r : Scanned} → 0x30 ≤ c → c ≤ 0x39 → LiteralRan L (number L c) s a r → Begun (plain L c) s a r
-digit_in L {s = s} {a} p q b = record { past = b.past; ran = ran_as (digit_arm L p q (rest s a)) (b.ran 1) }
+away : {c : ℕ} → Apart c → (k : ℕ) → is_in points k ≡ true → c ≡ k → ⊥
+away {c} d k h = apart_from (Unit {0}) points c k h d
 
--- ANY OTHER CHARACTER: the guards are left
-module _ (L : Lists) {c : ℕ} (slash : c ≡ 0x2F → ⊥) (r : c ≡ 0x72 → ⊥) (k : c ≡ 0x6B → ⊥) (b : c ≡ 0x62 → ⊥) (d : c ≡ 0x63 → ⊥) (hash : c ≡ 0x23 → ⊥) (single : c ≡ 0x27 → ⊥) (double : c ≡ 0x22 → ⊥) where
-  other_arm : digit c ≡ false → is_symbol symbols c ≡ false → (cs : List ℕ) → plain L c cs ≡ guards L c cs
+above : {c : ℕ} → Apart c → (k : ℕ) → is_in points k ≡ true → k ≤ c → k + 1 ≤ c
+above d k h l = omega (arith, away d k h)
+
+-- a digit: the points below the digits are tested with them
+least : {c : ℕ} → Apart c → 0x21 ≤ c → 0x30 ≤ c
+least d p = above d 0x2F refl (above d 0x2E refl (above d 0x2D refl (above d 0x2C refl (above d 0x2B refl (above d 0x2A refl (above d 0x29 refl (above d 0x28 refl (above d 0x27 refl (above d 0x26 refl (above d 0x25 refl (above d 0x24 refl (above d 0x23 refl (above d 0x22 refl (above d 0x21 refl p))))))))))))))
+
+module _ (L : Lists) {c : ℕ} (d : Apart c) where
+  digit_arm : 0x30 ≤ c → c ≤ 0x39 → (cs : List ℕ) → plain L c cs ≡ literal L 1 (number L c) cs
   unfolding choose
-  other_arm h n cs =
-      rw (n, ne_eqb c 0x2F slash, ne_eqb c 0x72 r, ne_eqb c 0x6B k, ne_eqb c 0x62 b, ne_eqb c 0x63 d, ne_eqb c 0x23 hash, ne_eqb c 0x27 single, ne_eqb c 0x22 double, h)
+  digit_arm p q cs =
+      rw (ne_eqb c 0x2F (λ e. omega arith), digit_white p q, ne_eqb c 0x72 (λ e. omega arith), ne_eqb c 0x6B (λ e. omega arith), ne_eqb c 0x62 (λ e. omega arith), ne_eqb c 0x63 (λ e. omega arith), digit_start L p q, inside_within 0x30 0x39 c p q)
 
-  pub other_in : {s : List ℕ} {a : Cursor} {x : Scanned} → is_symbol symbols c ≡ is '#' c → (c < 0x30) ⊎ (0x39 < c) → Begun (guards L c) s a x → Begun (plain L c) s a x
-  other_in {s} {a} n h g = record { past = g.past; ran = ran_as (other_arm (no_digit h) (n ∙ ne_eqb c 0x23 hash) (rest s a)) g.ran }
+  pub digit_in : {s : List ℕ} {a : Cursor} {r : Scanned} → 0x21 ≤ c → c < 0x3A → LiteralRan L (number L c) s a r → Begun (plain L c) s a r
+  digit_in {s} {a} p q b = record { past = b.past; ran = ran_as (digit_arm (least d p) (omega arith) (rest s a)) (b.ran 1) }
+
+  -- no digit: the guards are left
+  other_arm : digit c ≡ false → (cs : List ℕ) → plain L c cs ≡ guards L c cs
+  unfolding choose
+  other_arm h cs =
+      rw (ne_eqb c 0x2F (away d 0x2F refl), ne_eqb c 0x72 (away d 0x72 refl), ne_eqb c 0x6B (away d 0x6B refl), ne_eqb c 0x62 (away d 0x62 refl), ne_eqb c 0x63 (away d 0x63 refl), ne_eqb c 0x23 (away d 0x23 refl), ne_eqb c 0x3B (away d 0x3B refl), ne_eqb c 0x2C (away d 0x2C refl), ne_eqb c 0x2E (away d 0x2E refl), ne_eqb c 0x28 (away d 0x28 refl), ne_eqb c 0x29 (away d 0x29 refl), ne_eqb c 0x7B (away d 0x7B refl), ne_eqb c 0x7D (away d 0x7D refl), ne_eqb c 0x5B (away d 0x5B refl), ne_eqb c 0x5D (away d 0x5D refl), ne_eqb c 0x40 (away d 0x40 refl), ne_eqb c 0x7E (away d 0x7E refl), ne_eqb c 0x3F (away d 0x3F refl), ne_eqb c 0x3A (away d 0x3A refl), ne_eqb c 0x24 (away d 0x24 refl), ne_eqb c 0x3D (away d 0x3D refl), ne_eqb c 0x21 (away d 0x21 refl), ne_eqb c 0x3C (away d 0x3C refl), ne_eqb c 0x3E (away d 0x3E refl), ne_eqb c 0x2D (away d 0x2D refl), ne_eqb c 0x26 (away d 0x26 refl), ne_eqb c 0x7C (away d 0x7C refl), ne_eqb c 0x2B (away d 0x2B refl), ne_eqb c 0x2A (away d 0x2A refl), ne_eqb c 0x5E (away d 0x5E refl), ne_eqb c 0x25 (away d 0x25 refl), ne_eqb c 0x27 (away d 0x27 refl), ne_eqb c 0x22 (away d 0x22 refl), h)
+
+  pub other_in : {s : List ℕ} {a : Cursor} {r : Scanned} → (c < 0x21) ⊎ (0x3A ≤ c) → Begun (guards L c) s a r → Begun (plain L c) s a r
+  other_in {s} {a} h b = record { past = b.past; ran = ran_as (other_arm (no_digit {c = c} (⊎_elim (λ p. inl (omega arith)) (λ p. inr (omega arith)) h)) (rest s a)) b.ran }

@@ -1,5 +1,5 @@
 -- Parts of the decision over the first character, in the words of the book.
-use Rattle.std.specs.Prelude.{ℕ, ◌≡◌, Bool, true, List, Option, Some, None, get_or}
+use Rattle.std.specs.Prelude.{ℕ, ◌≡◌, Bool, List, get_or}
 use Rattle.basics.specs.Choice.{and}
 use Rattle.eaters.specs.Eat.{Eater, give, take_while, while, choose}
 use Rattle.classes.specs.Whitespace.{is_whitespace}
@@ -8,8 +8,7 @@ use Rattle.token.specs.declared.TokenKind.TheVariants as kind
 use Rattle.token.specs.Lists.{Lists, starting, smiling}
 use Rattle.token.specs.Whitespace.{whitespace}
 use Rattle.token.specs.Words.{ident_or_unknown_prefix, invalid_ident}
-use Rattle.token.specs.Names.{is, '#', '-'}
-use Rattle.token.specs.Punctuation.{symbols, is_symbol, symbol_kind}
+use Rattle.token.specs.Names.{is, '-'}
 use Rattle.token.specs.Advance.{last}
 use Rattle.cursor.specs.declared.Cursor.{Cursor}
 use Rattle.cursor.specs.Cursors.{rest}
@@ -25,11 +24,6 @@ pub record Led (c : ℕ) (s : List ℕ) (from : Cursor) (r : Blanks) : Type 0 wh
 -- c and the two characters after it are dashes
 abbrev pub fence : (c : ℕ) → List ℕ → Bool
 fence c cs = and (is '-' c) (and (is '-' (get_or cs 0 0)) (is '-' (get_or cs 1 0)))
-
--- the kind of token that c is alone; or it is no symbol but a hash
-abbrev pub Symbolic : (c : ℕ) → Option TokenKind → Type 0
-Symbolic c (Some k) = (is_symbol symbols c ≡ true) × (k ≡ symbol_kind symbols kind.Unknown c)
-Symbolic c None = is_symbol symbols c ≡ is '#' c
 
 -- after a character that is not a single point of the decision: the guards, in their order
 abbrev pub guards : Lists → (c : ℕ) → Eater TokenKind

@@ -11,7 +11,7 @@ ghost use Rattle.token.specs.Advance;
 ghost use Rattle.token.specs.Advance.{decided, stays};
 ghost use Rattle.cursor.specs.Cursors.{rest};
 ghost use Rattle.cursor.specs.Ran.{Ran, Begun};
-ghost use Rattle.advance.specs.Arms.{guards, Symbolic, Led, fence};
+ghost use Rattle.advance.specs.Arms.{guards, Led, fence};
 
 use cursor::{Cursor, Lexed, Scanned};
 use lists::Lists;
@@ -45,42 +45,7 @@ fn other(text: &[u8], c: CodePoint, from: Cursor, lists: &Lists) -> Scanned
     Scanned::plain(TokenKind::Unknown, from)
 }
 
-// The kind of token that c is alone, if it is a symbol. A hash is none here: it may be the prefix of a guarded string.
-fn symbol(c: CodePoint) -> Option<TokenKind>
-    ensures { Symbolic c result }
-{
-    let kind = match c {
-        0x3B => TokenKind::Semi,
-        0x2C => TokenKind::Comma,
-        0x2E => TokenKind::Dot,
-        0x28 => TokenKind::OpenParen,
-        0x29 => TokenKind::CloseParen,
-        0x7B => TokenKind::OpenBrace,
-        0x7D => TokenKind::CloseBrace,
-        0x5B => TokenKind::OpenBracket,
-        0x5D => TokenKind::CloseBracket,
-        0x40 => TokenKind::At,
-        0x7E => TokenKind::Tilde,
-        0x3F => TokenKind::Question,
-        0x3A => TokenKind::Colon,
-        0x24 => TokenKind::Dollar,
-        0x3D => TokenKind::Eq,
-        0x21 => TokenKind::Bang,
-        0x3C => TokenKind::Lt,
-        0x3E => TokenKind::Gt,
-        0x2D => TokenKind::Minus,
-        0x26 => TokenKind::And,
-        0x7C => TokenKind::Or,
-        0x2B => TokenKind::Plus,
-        0x2A => TokenKind::Star,
-        0x5E => TokenKind::Caret,
-        0x25 => TokenKind::Percent,
-        _ => return None,
-    };
-    Some(kind)
-}
-
-// The decision over the first character c of a token, frontmatter off, in 000's order of arms; the symbols and its guards come last.
+// The decision over the first character c of a token, frontmatter off, in 000's order of arms; its guards come last.
 fn plain(text: &[u8], c: CodePoint, from: Cursor, lists: &Lists) -> Scanned
     ensures { Begun (Advance.plain lists.now c) text.now from result }
 {
@@ -92,12 +57,34 @@ fn plain(text: &[u8], c: CodePoint, from: Cursor, lists: &Lists) -> Scanned
         0x63 => prefixed::after_c(text, from, Form::C, lists),
         0x30..=0x39 => literals::number_literal(text, from, c, lists),
         0x23 => after_hash(text, from),
+        0x3B => Scanned::plain(TokenKind::Semi, from),
+        0x2C => Scanned::plain(TokenKind::Comma, from),
+        0x2E => Scanned::plain(TokenKind::Dot, from),
+        0x28 => Scanned::plain(TokenKind::OpenParen, from),
+        0x29 => Scanned::plain(TokenKind::CloseParen, from),
+        0x7B => Scanned::plain(TokenKind::OpenBrace, from),
+        0x7D => Scanned::plain(TokenKind::CloseBrace, from),
+        0x5B => Scanned::plain(TokenKind::OpenBracket, from),
+        0x5D => Scanned::plain(TokenKind::CloseBracket, from),
+        0x40 => Scanned::plain(TokenKind::At, from),
+        0x7E => Scanned::plain(TokenKind::Tilde, from),
+        0x3F => Scanned::plain(TokenKind::Question, from),
+        0x3A => Scanned::plain(TokenKind::Colon, from),
+        0x24 => Scanned::plain(TokenKind::Dollar, from),
+        0x3D => Scanned::plain(TokenKind::Eq, from),
+        0x21 => Scanned::plain(TokenKind::Bang, from),
+        0x3C => Scanned::plain(TokenKind::Lt, from),
+        0x3E => Scanned::plain(TokenKind::Gt, from),
+        0x2D => Scanned::plain(TokenKind::Minus, from),
+        0x26 => Scanned::plain(TokenKind::And, from),
+        0x7C => Scanned::plain(TokenKind::Or, from),
+        0x2B => Scanned::plain(TokenKind::Plus, from),
+        0x2A => Scanned::plain(TokenKind::Star, from),
+        0x5E => Scanned::plain(TokenKind::Caret, from),
+        0x25 => Scanned::plain(TokenKind::Percent, from),
         0x27 => prefixed::lifetime_or_char(text, from, lists),
         0x22 => literals::double_literal(text, from, Form::Plain, lists),
-        _ => match symbol(c) {
-            Some(kind) => Scanned::plain(kind, from),
-            None => other(text, c, from, lists),
-        },
+        _ => other(text, c, from, lists),
     }
 }
 
