@@ -1,2 +1,3 @@
 pub mod Feeds
+mod Counting
 pub mod Answers
