@@ -42,3 +42,8 @@ pub record Fewer (n k : ℕ) (t r : Tally) : Type 0 where
 abbrev pub Short : (n k : ℕ) → Tally → Stop → Type 0
 Short n k t (OutOfForm r) = Fewer n k t r
 Short n k t (Output why) = Unit {0}
+
+-- where a file is out of form, what was counted up to there stands within it
+abbrev pub Halted : (n : ℕ) → Stop → Type 0
+Halted n (OutOfForm r) = Tallied n r
+Halted n (Output why) = Unit {0}

@@ -4,7 +4,7 @@
 #![tactic(auto)]
 
 ghost use Rattle.std.specs.Prelude.{◌≡◌, ◌+◌, ◌<◌, ◌≤◌, length, IfSome, IfOk, IfErr};
-ghost use Rattle.replay.specs.Counted.{Tallied, Within, One, Steps, Short, After};
+ghost use Rattle.replay.specs.Counted.{Tallied, Within, One, Steps, Short, Halted, After};
 ghost use Rattle.replay.specs.declared.Stop.TheVariants.{Output};
 
 use std::env::{Env, FillError};
@@ -147,6 +147,7 @@ fn section<W: Write>(to: &mut W, s: &[u8], t: Tally, out: &mut [u8]) -> Result<T
     requires { Tallied (length s.now) t }
     ensures counted { IfOk result (Tallied (length s.now)) }
     ensures on { IfOk result (λ r. t.at < r.at) }
+    ensures few { IfErr result (Halted (length s.now)) }
 {
     let Some(head) = head_at(s, t.at) else {
         return Err(Stop::OutOfForm(t));
@@ -179,7 +180,8 @@ fn nothing() -> Tally
 
 // Every section of a file.
 fn sections<W: Write>(to: &mut W, s: &[u8], out: &mut [u8]) -> Result<Tally, Stop>
-    ensures { IfOk result (Tallied (length s.now)) }
+    ensures counted { IfOk result (Tallied (length s.now)) }
+    ensures few { IfErr result (Halted (length s.now)) }
 {
     let mut t = nothing();
     while t.at < s.len() {
