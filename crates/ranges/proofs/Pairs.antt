@@ -14,7 +14,7 @@ use native.Mathlib.Omega.{arith}
 use Rattle.std.proofs.lemmas.List.{take_rest}
 use Rattle.basics.specs.Choice.{pick}
 use Rattle.basics.proofs.Choices.{and_1, and_2}
-use Rattle.ranges.specs.Rules.{meets, clear, good_pair, flaw_from, flaw, list_verdict}
+use Rattle.ranges.specs.Rules.{meets, below, clear, good_pair, flaw_from, flaw, list_verdict}
 use Rattle.refusal.specs.declared.Bad.TheVariants as bad
 use Rattle.refusal.specs.Verdict.{fine}
 
@@ -49,6 +49,19 @@ clear_true low high e =
       marks = not-true _ (and_1 _ _ g);
       separators = not-true _ (and_2 (not (meets 0x200E 0x200F low high)) _ g);
     }
+
+-- a pair that covers no surrogate is clear if it covers none of the other points, which lie below them
+pub clear_near : (low high : ℕ) → meets 0xD800 0xDFFF low high ≡ false → below low high ≡ clear low high
+unfolding clear below
+clear_near low high e = rw e refl
+
+-- and it covers none of these if it lies above them
+pub clear_far : (low high : ℕ) → meets 0xD800 0xDFFF low high ≡ false → 0x2029 < low → true ≡ clear low high
+unfolding clear meets
+clear_far low high e h = rw (e, past 0x85 (omega arith), past 0x200F (omega arith), past 0x2029 (omega arith)) refl
+  where
+    past : (last : ℕ) → last ≤ 0x2029 → leb low last ≡ false
+    past last k = sym (refuted (leb low last) (λ p. omega (arith, leb-true low last p, k, h)))
 
 -- a part of a clear pair is clear
 clear_part : (from to low high : ℕ) → from ≤ low → high ≤ to → clear from to ≡ true → clear low high ≡ true

@@ -8,6 +8,13 @@ use Rattle.refusal.specs.Verdict.{Verdict, fine}
 unfoldable pub meets : (first last low high : ℕ) → Bool
 meets first last low high = and (leb low last) (leb first high)
 
+-- no pair covers U+0085, U+200E, U+200F, U+2028 or U+2029
+unfoldable pub below : (low high : ℕ) → Bool
+below low high =
+    and (not (meets 0x85 0x85 low high))
+    (and (not (meets 0x200E 0x200F low high))
+    (not (meets 0x2028 0x2029 low high)))
+
 -- no pair covers a surrogate, U+0085, U+200E, U+200F, U+2028 or U+2029
 unfoldable pub clear : (low high : ℕ) → Bool
 clear low high =

@@ -19,15 +19,22 @@ fn meets(first: u32, last: u32, low: u32, high: u32) -> bool
     low <= last && first <= high
 }
 
-// Whether a pair covers none of the points that no list may hold.
+// Whether a pair covers none of those points that no list may hold but the surrogates, which lie above all others.
+#[tactic(auto, unfolding(crate::specs::Rules::below))]
+fn below(low: u32, high: u32) -> bool
+    ensures { result ≡ Rattle.ranges.specs.Rules.below low high }
+{
+    !meets(0x85, 0x85, low, high)
+        && !meets(0x200E, 0x200F, low, high)
+        && !meets(0x2028, 0x2029, low, high)
+}
+
+// Whether a pair covers none of the points that no list may hold. Most pairs of a list lie above all of them but the surrogates, so that one look tells.
 #[tactic(auto, unfolding(crate::specs::Rules::clear))]
 fn clear(low: u32, high: u32) -> bool
     ensures { result ≡ Rattle.ranges.specs.Rules.clear low high }
 {
-    !meets(0xD800, 0xDFFF, low, high)
-        && !meets(0x85, 0x85, low, high)
-        && !meets(0x200E, 0x200F, low, high)
-        && !meets(0x2028, 0x2029, low, high)
+    !meets(0xD800, 0xDFFF, low, high) && (0x2029 < low || below(low, high))
 }
 
 // Whether a pair obeys the rules after a pair that ends at `previous` (0 before the first one).
