@@ -30,7 +30,7 @@ use Rattle.lists_in.specs.declared.ReadRefusal.TheVariants.{Line, Room}
 use Rattle.lists_in.specs.Tallies.{tallies_of}
 use Rattle.lists_in.specs.Surveys.{found, surveyed}
 use Rattle.lists_in.specs.Fills.{FillRoom, Put, Filled}
-use Rattle.lists_in.specs.Answers.{ReadAnswer, shared, counts, counts_of, held_of, roomed_for, read_of, lists_in, Reading, judged_of}
+use Rattle.lists_in.specs.Answers.{ReadAnswer, shared, counts, counts_of, held_of, roomed_for, read_of, run_after, lists_in, Reading, judged_of}
 
 -- the verdicts on what is kept of the lists are those on the lists
 same_judgement : (limit : ℕ) (v : Version) (from : ℕ) (L : Lists) (rooms : Each ℕ) → judged_of limit (found v from (tallies_of L)) rooms ≡ refused_or shared (lists_verdict limit L) (roomed_for v (counts_of L) rooms)
@@ -248,4 +248,25 @@ read_done_told {limit} {s} {a} {b} {c} {h = h} f =
       starts_are = ap (take h.starts) (f.starts_hold ∙ ap (λ (y : Lists). y.starts ++ drop (length y.starts) a) l) ∙ take_at d.lists.starts _ h.starts (sym (ap (λ (y : Held). y.starts) d.held));
       continues_are = ap (take h.continues) (f.continues_hold ∙ ap (λ (y : Lists). y.continues ++ drop (length y.continues) b) l) ∙ take_at d.lists.continues _ h.continues (sym (ap (λ (y : Held). y.continues) d.held));
       emoji_are = ap (take h.emoji) (f.emoji_hold ∙ ap (λ (y : Lists). y.emoji ++ drop (length y.emoji) c) l) ∙ take_at d.lists.emoji _ h.emoji (sym (ap (λ (y : Held). y.emoji) d.held));
+    }
+
+-- WHAT WAS LOADED lies within the runs
+pub record Lies (h : Held) (a b c : List ℕ) : Type 0 where
+  pub in_starts : h.starts ≤ length a
+  pub in_continues : h.continues ≤ length b
+  pub in_emoji : h.emoji ≤ length c
+
+pub loaded_lies : {limit : ℕ} {s a b c starts continues emoji : List ℕ} {r : ReadAnswer} {h : Held} → Reading limit s a b c starts continues emoji r → r ≡ Ok h → Lies h starts continues emoji
+loaded_lies {limit} {s} {a} {b} {c} {h = h} f q =
+    let d : Full limit (load s) h = full_by limit (counts (length a) (length b) (length c)) (load s) {h = h} (sym f.answer ∙ q) in
+    let L : Lists = lists_in (load s) in
+    let l : d.lists ≡ L = sym (ap lists_in d.loads) in
+    let n : h ≡ held_of h.version (counts_of L) = d.held ∙ ap (λ (y : Lists). held_of h.version (counts_of y)) l in
+    let x = f.starts_hold ∙ ap (λ (y : ReadAnswer). run_after y L.starts a) q in
+    let y = f.continues_hold ∙ ap (λ (z : ReadAnswer). run_after z L.continues b) q in
+    let z = f.emoji_hold ∙ ap (λ (w : ReadAnswer). run_after w L.emoji c) q in
+    record {
+      in_starts = omega (arith, ap (λ (w : Held). w.starts) n, ap length x, length-append L.starts (drop (length L.starts) a));
+      in_continues = omega (arith, ap (λ (w : Held). w.continues) n, ap length y, length-append L.continues (drop (length L.continues) b));
+      in_emoji = omega (arith, ap (λ (w : Held). w.emoji) n, ap length z, length-append L.emoji (drop (length L.emoji) c));
     }

@@ -4,3 +4,4 @@ pub mod Surveying
 pub mod Filling
 pub mod Calls
 pub mod Answers
+pub mod Fits
