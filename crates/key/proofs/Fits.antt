@@ -1,11 +1,12 @@
--- What an answer of success says: of the text, the lists and the room.
+-- What an answer of success says: of the text, the lists and the room; and a key that was written fits into the buffer.
 use Rattle.std.specs.Prelude.{Ok, Err}
 use Prim.Native.Nat.{ℕ, ◌≤◌}
-use mathlib.Core.Path.{◌≡◌, refl, ap}
+use mathlib.Core.Path.{◌≡◌, refl, sym, ap, ◌∙◌}
 use mathlib.Core.Bool.{Bool, true, false, true≢false}
 use mathlib.Core.List.{List}
 use lib.Dec.{leb}
-use lib.ListN.{length}
+use lib.ListN.{length, take}
+use lib.Seq.{length-take-le}
 use borrow.Author.Tests.{leb-true}
 use native.Mathlib.Omega.{arith}
 use Rattle.basics.specs.Choice.{pick}
@@ -21,7 +22,7 @@ use Rattle.canon.specs.Key.{key_of}
 use Rattle.key.specs.Answers.{KeyAnswer}
 use Rattle.key.specs.declared.KeyRefusal.TheVariants.{Room}
 use Rattle.key.specs.Answers.{shared}
-use Rattle.key.specs.Answers.{unbroken, unmarked, undoubled, key_answer}
+use Rattle.key.specs.Answers.{unbroken, unmarked, undoubled, key_answer, Keying}
 
 -- what an answer of success says of the text, the lists and the room
 pub record Done (limit : ℕ) (s : List ℕ) (L : Lists) (room n : ℕ) : Type 0 where
@@ -54,3 +55,13 @@ module _ {limit : ℕ} {s : List ℕ} {L : Lists} {room n : ℕ} where
 
   pub done : Ok n ≡ key_answer limit s L room → Done limit s L room n
   done = by_cases (token_verdict limit s L) (double_return s) (hidden_mark s) (broken_at L (replaced s)) (leb (length (key_of L (replaced s))) room) refl refl refl refl refl
+
+-- A KEY THAT WAS WRITTEN fits into the buffer, and its bytes are a part of it
+module _ {limit : ℕ} {s : List ℕ} {L : Lists} {before after : List ℕ} {r : KeyAnswer} {n : ℕ} (k : Keying limit s L before after r) (e : r ≡ Ok n) (kept : length after ≡ length before) where
+  pub key_fits : n ≤ length after
+  key_fits =
+      let d : Done limit s L (length before) n = done (sym e ∙ k.answer) in
+      omega (arith, d.fits, kept)
+
+  pub key_part : n ≡ length (take n after)
+  key_part = sym (length-take-le n after key_fits)
