@@ -1,4 +1,5 @@
-// What the list call answers, and what it is to write: every refusal is found, and the tokens are counted, before the first record is written.
+// What the list call answers: every refusal is found, and the tokens are counted, before the first record is written. `fitting` is what the calls that write go by;
+// `plan_list` tells the answer for any number of slots, and what is written then, to a caller who lends no run.
 #![tactic(auto)]
 
 ghost use Rattle.std.specs.Prelude.{◌≡◌, length};
@@ -39,7 +40,8 @@ pub fn list_numbers(answer: Result<usize, ListRefusal>) -> Numbers
     }
 }
 
-// What is answered, how many records are written, and the scan before the first of them. All three stand here, since they are what `plan_list` promises.
+// What the list call answers, how many records it writes then, and the scan before the first of them. All three stand here, since they are what `plan_list` promises;
+// that this many steps from this scan on give what the call promises is a law (proofs/Planning). No call here goes by a plan.
 #[derive(Clone, Copy)]
 pub struct Plan {
     pub answer: Result<usize, ListRefusal>,
@@ -99,7 +101,8 @@ fn answer_of(
     fitting(&source, on, slots)
 }
 
-// PUBLIC. What the list call is to do with `slots` slots: its answer, and no record where it refuses.
+// PUBLIC. What the list call answers with `slots` slots, and how many records it writes then: none where it refuses. It is told, and nothing is written;
+// `list::tokenize` and `slots::tokens` go by `fitting`.
 pub fn plan_list(
     text: &[u8],
     starts: &[u32],
