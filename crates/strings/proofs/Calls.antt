@@ -6,7 +6,7 @@ use mathlib.Core.List.{List, [], ◌∷◌}
 use lib.ListN.{length}
 use lib.Dec.{eqb}
 use borrow.Author.Tests.{ne_eqb}
-use Rattle.basics.specs.Choice.{and, or}
+use Rattle.basics.specs.Choice.{or}
 use Rattle.std.specs.Prelude.{Ok, Err}
 use Rattle.std.specs.List.{starts_with}
 use Rattle.refusal.specs.declared.PlaceRefusal.TheVariants.{Position}

@@ -3,4 +3,5 @@ mod Guesses
 mod Checks
 mod Strings
 mod Calls
+mod Numbering
 pub mod Answers
