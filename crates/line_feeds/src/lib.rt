@@ -4,8 +4,8 @@
 ghost use Rattle.std.specs.Prelude.{◌≡◌, ◌≤◌, length};
 ghost use Rattle.line_feeds.specs.Feeds.{line_feeds};
 
-// The line feeds among bytes, which are no more than a text may have. A loop over the bytes, and no `filter(..).count()`: with it the compiler takes sixteen bytes at
-// a time, and the line of a token far into a text counts all bytes before it.
+// The line feeds among bytes, which are no more than a text may have. A loop with a test is made one over sixteen bytes at a time, and `filter(..).count()` is not:
+// the line of a token far into a text is a count of all bytes before it.
 pub fn count(bytes: &[u8]) -> u32
     requires { length bytes.now ≤ 4294967295 }
     ensures { result ≡ line_feeds bytes.now }
